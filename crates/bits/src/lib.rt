@@ -1,0 +1,1 @@
+// Single bits of numbers. This crate has definitions and proofs only.

@@ -1,0 +1,2 @@
+pub mod Calibrations
+pub mod Tables

@@ -1,0 +1,23 @@
+-- Sets of cells below 64. Assumes nothing.
+use mathlib.Core.Path.{_≡_}
+use mathlib.Core.Bool.{Bool, true, false, _&&_, _||_}
+use Prim.Native.Nat.{ℕ}
+use lib.Dec.{eqb, ltb}
+use Rattle.bits.specs.Bits.{bit}
+use Rattle.grid.specs.declared.cell_set.CellSet.{CellSet}
+
+-- the set has the cell: its bit is 1
+abbrev pub has : CellSet → ℕ → Bool
+has s c = bit (s .bits) c
+
+-- no cell is in it
+abbrev pub no-cells : ℕ → Bool
+no-cells c = false
+
+-- the set with one cell more, where that is below 64
+abbrev pub with-cell : ℕ → (ℕ → Bool) → ℕ → Bool
+with-cell cell set c = (ltb cell 64 && eqb c cell) || set c
+
+-- some cell is in both
+abbrev pub Common-cell : (ℕ → Bool) → (ℕ → Bool) → Type 0
+Common-cell set other = (c : ℕ) × (set c ≡ true) × (other c ≡ true)

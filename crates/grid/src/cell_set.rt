@@ -1,0 +1,45 @@
+ghost use mathlib.Core.Path.{_≡_};
+ghost use mathlib.Core.Bool.{true};
+ghost use Prim.Native.Nat.{ℕ};
+ghost use lib.Dec.{ltb};
+ghost use Rattle.std.specs.Orderings.{Decides};
+ghost use Rattle.grid.specs.CellSets.{no-cells, with-cell, has, Common-cell};
+
+// A set of cells below 64, a bit for each.
+#[derive(Clone, Copy)]
+pub struct CellSet {
+    bits: u64,
+}
+
+impl CellSet {
+    pub fn new() -> CellSet
+        ensures { λ r. ⌜ has r ≡ no-cells ⌝ }
+    {
+        CellSet { bits: 0 }
+    }
+
+    // Puts the cell in; a cell from 64 on is none, and changes nothing. Answers whether the set has it.
+    pub fn insert(&mut self, cell: u8) -> bool
+        ensures value { λ r. ⌜ r ≡ ltb cell 64 ⌝ }
+        ensures after { λ _. ⌜ has (now (self .exit)) ≡ with-cell cell (has (now (self .entry))) ⌝ }
+    {
+        if cell >= 64 {
+            return false;
+        }
+        self.bits |= 1 << cell;
+        true
+    }
+
+    pub fn contains(self, cell: u8) -> bool
+        ensures { λ r. ⌜ r ≡ has self cell ⌝ }
+    {
+        cell < 64 && self.bits >> cell & 1 == 1
+    }
+
+    // Whether the sets have a common cell.
+    pub fn meets(self, other: CellSet) -> bool
+        ensures { λ r. ⌜ Decides r (Common-cell (has self) (has other)) ⌝ }
+    {
+        self.bits & other.bits != 0
+    }
+}

@@ -1,0 +1,79 @@
+ghost use mathlib.Core.Path.{_≡_};
+ghost use Prim.Native.Nat.{_<_};
+ghost use Rattle.std.specs.Orderings.{Decides};
+ghost use Rattle.grid.specs.Grids.{sized, grid-as, grid-of, cells as cellsOf, number as numberAt, place as placeOf, next-to, beside, are-neighbours, Neighbours};
+use crate::machine::Machine;
+use circuit::refusal::Refusal;
+
+// Whether the numbers differ by 1.
+fn is_next_to(m: u8, n: u8) -> bool
+    ensures { λ r. ⌜ r ≡ next-to m n ⌝ }
+{
+    if m < n { n - m == 1 } else { m - n == 1 }
+}
+
+// Whether the places differ by 1 in one coordinate and agree in the other.
+fn is_beside(p: (u8, u8), q: (u8, u8)) -> bool
+    ensures { λ r. ⌜ r ≡ beside p q ⌝ }
+{
+    p.1 == q.1 && is_next_to(p.0, q.0) || p.0 == q.0 && is_next_to(p.1, q.1)
+}
+
+impl Machine {
+    // A machine of so many columns and rows, each from 1 to 8.
+    pub fn new(columns: usize, rows: usize) -> Result<Machine, Refusal>
+        ensures { λ r. ⌜ grid-as r ≡ sized columns rows ⌝ }
+    {
+        if columns < 1 || columns > 8 || rows < 1 || rows > 8 {
+            return Err(Refusal::MachineSize);
+        }
+        Ok(Machine {
+            columns: columns as u8,
+            rows: rows as u8,
+        })
+    }
+
+    pub fn columns(self) -> u8
+        ensures { λ r. ⌜ r ≡ grid-of self .columns ⌝ }
+    {
+        self.columns
+    }
+
+    pub fn rows(self) -> u8
+        ensures { λ r. ⌜ r ≡ grid-of self .rows ⌝ }
+    {
+        self.rows
+    }
+
+    // How many cells there are.
+    pub fn cells(self) -> u8
+        ensures { λ r. ⌜ r ≡ cellsOf (grid-of self) ⌝ }
+    {
+        self.rows * self.columns
+    }
+
+    // The number of the cell at column x and row y.
+    pub fn number(self, x: u8, y: u8) -> u16
+        ensures value { λ r. ⌜ r ≡ numberAt (grid-of self) x y ⌝ }
+        ensures back { λ r. ⌜ (x < grid-of self .columns → placeOf (grid-of self) r ≡ (x, y)) ⌝ }
+    {
+        y as u16 * self.columns as u16 + x as u16
+    }
+
+    // The column and the row of a cell.
+    pub fn place(self, cell: u8) -> (u8, u8)
+        ensures value { λ r. ⌜ r ≡ placeOf (grid-of self) cell ⌝ }
+        ensures back { λ r. ⌜ numberAt (grid-of self) (r .0) (r .1) ≡ cell ⌝ }
+    {
+        (cell % self.columns, cell / self.columns)
+    }
+
+    // Whether the cells are on the machine and differ by 1 in one coordinate while they agree in the other.
+    pub fn are_neighbours(self, a: u8, b: u8) -> bool
+        ensures value { λ r. ⌜ r ≡ are-neighbours (grid-of self) a b ⌝ }
+        ensures means { λ r. ⌜ Decides r (Neighbours (grid-of self) a b) ⌝ }
+    {
+        let cells = self.cells();
+        a < cells && b < cells && is_beside(self.place(a), self.place(b))
+    }
+}
