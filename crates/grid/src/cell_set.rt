@@ -3,7 +3,7 @@ ghost use mathlib.Core.Bool.{true};
 ghost use Prim.Native.Nat.{ℕ};
 ghost use lib.Dec.{ltb};
 ghost use Rattle.std.specs.Orderings.{Decides};
-ghost use Rattle.grid.specs.CellSets.{no-cells, with-cell, has, Common-cell};
+ghost use Rattle.grid.specs.CellSets.{no-cells, with-cell, listed-cells, has, Common-cell};
 
 // A set of cells below 64, a bit for each.
 #[derive(Clone, Copy)]
@@ -28,6 +28,17 @@ impl CellSet {
         }
         self.bits |= 1 << cell;
         true
+    }
+
+    // The set of the cells of a list.
+    pub fn of_cells(cells: &[u8]) -> CellSet
+        ensures { λ r. ⌜ has r ≡ listed-cells (now (cells .entry)) ⌝ }
+    {
+        let mut set = CellSet::new();
+        for cell in cells {
+            let _ = set.insert(*cell);
+        }
+        set
     }
 
     pub fn contains(self, cell: u8) -> bool

@@ -1,0 +1,4 @@
+pub mod Walks
+pub mod Bends
+pub mod Lawful
+pub mod Scans
