@@ -1,2 +1,3 @@
 pub mod Fits
 pub mod Listed
+pub mod Neighbours

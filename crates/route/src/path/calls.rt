@@ -1,6 +1,7 @@
 ghost use mathlib.Core.Path.{_≡_};
 ghost use mathlib.Core.Bool.{cond};
 ghost use mathlib.Core.List.{[], _∷_, _++_};
+ghost use Prim.Native.Nat.{_≤_};
 ghost use lib.Dec.{leb};
 ghost use lib.ListN.{length};
 ghost use Rattle.std.specs.Results.{isOk};
@@ -36,7 +37,8 @@ impl Path {
 
     // The cells in their order.
     pub fn cells(&self) -> &[u8]
-        ensures { λ r. ⌜ now r ≡ path-cells (now (self .entry)) ⌝ }
+        ensures value { λ r. ⌜ now r ≡ path-cells (now (self .entry)) ⌝ }
+        ensures few { λ r. ⌜ length (now r) ≤ 64 ⌝ }
     {
         &self.places[0..self.len]
     }

@@ -1,0 +1,4 @@
+pub mod Links
+pub mod Ways
+pub mod Routed
+pub mod Laying
