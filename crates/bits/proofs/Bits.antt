@@ -102,9 +102,3 @@ meets-decides w a b h = (
   λ p. not-from-false (eqb (bitAnd a b) 0) (ne-eqb (bitAnd a b) 0 (λ z.
       both-ways (bit (bitAnd a b) (p .0)) (ap (λ n. bit n (p .0)) z ∙ bit-none (p .0)) (bit-and a b (p .0) ∙ and-from (bit a (p .0)) (bit b (p .0)) (p .1) (p .2)))),
 )
-
-pub or-swap : (x y : Bool) → (x || y) ≡ (y || x)
-or-swap true true = refl
-or-swap true false = refl
-or-swap false true = refl
-or-swap false false = refl

@@ -42,9 +42,9 @@ module _ (g : Grid) (vs : List Calibration) (ranged : In-range g vs) where
   link-few a b =
       cond-both (are-neighbours g a b) _ 0 (λ t. t ≤ 1000)
       (λ e.
-          let p = and-parts (ltb a (cells g)) _ e in
-          let q = at-cell (min a b) (let l = ltb-true a (cells g) (p .0) in omega arith) in
-          cond-both (eqb (row g a) (row g b)) _ _ (λ t. t ≤ 1000) (λ f. link-high _ _ (q .east)) (λ f. link-high _ _ (q .south)))
+      let p = and-parts (ltb a (cells g)) _ e in
+      let q = at-cell (min a b) (let l = ltb-true a (cells g) (p .0) in omega arith) in
+      cond-both (eqb (row g a) (row g b)) _ _ (λ t. t ≤ 1000) (λ f. link-high _ _ (q .east)) (λ f. link-high _ _ (q .south)))
       (λ e. omega arith)
 
   module _ (fit : Grid-fit g) where

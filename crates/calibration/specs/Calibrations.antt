@@ -7,8 +7,8 @@ use lib.Dec.{eqb, leb, ltb}
 use lib.ListN.{getD}
 use Rattle.std.specs.Iters.{counting}
 use Rattle.std.specs.declared.option.Option.{Option}
-use Rattle.circuit.specs.declared.refusal.Refusal.{Refusal}
-use Rattle.circuit.specs.Refusals.{refuse-if, or-else}
+use Rattle.refusal.specs.declared.Refusal.{Refusal}
+use Rattle.refusal.specs.Refusals.{refuse-if, or-else}
 use Rattle.grid.specs.Grids.{Grid, between, cells, column, row, are-neighbours}
 use Rattle.calibration.specs.declared.values.Calibration.{Calibration}
 

@@ -1,3 +1,2 @@
 pub mod Actions
 pub mod Operations
-pub mod Refusals

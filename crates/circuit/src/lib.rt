@@ -1,7 +1,5 @@
-// The words of the subject: kinds of gates, actions on wires, operations and refusals.
+// The words of the subject: kinds of gates, actions on wires, and operations with their order.
 pub mod action;
 pub mod letter;
-pub mod memory;
 pub mod operation;
 pub mod order;
-pub mod refusal;

@@ -1,7 +1,7 @@
 // The order of operations: start, first cell, length, kind, second cell, gate.
 ghost use mathlib.Core.Path.{_≡_};
 ghost use Prim.Native.Nat.{_+_};
-ghost use Rattle.std.specs.Orderings.{Decides};
+ghost use Rattle.std.specs.Orderings.{Decides, isEq};
 ghost use Rattle.std.specs.declared.option.Option.the-variants.{Some};
 ghost use Rattle.orders.specs.Ranks.{compared};
 ghost use Rattle.circuit.specs.Actions.{kind-place as kindPlace};
@@ -29,14 +29,19 @@ fn kind_place(action: Action) -> u8
     }
 }
 
+// How two operations compare, and when as equals.
 fn compare(a: Operation, b: Operation) -> Ordering
-    ensures { λ r. ⌜ r ≡ compared operation-before a b ⌝ }
+    ensures value { λ r. ⌜ r ≡ compared operation-before a b ⌝ }
+    ensures equal { λ r. ⌜ Decides (isEq r) (a ≡ b) ⌝ }
 {
     let starts = a.start.cmp(&b.start);
     let firsts = a.action.first_wire().cmp(&b.action.first_wire());
     let lengths = a.length.cmp(&b.length);
     let kinds = kind_place(a.action).cmp(&kind_place(b.action));
-    let targets = a.action.second_wire().unwrap_or(0).cmp(&b.action.second_wire().unwrap_or(0));
+    let targets = a.action
+        .second_wire()
+        .unwrap_or(0)
+        .cmp(&b.action.second_wire().unwrap_or(0));
     let gates = a.gate.cmp(&b.gate);
     starts.then(firsts.then(lengths.then(kinds.then(targets.then(gates)))))
 }

@@ -1,11 +1,14 @@
 -- The links along a path by their places. Assumes nothing.
 use mathlib.Core.Path.{_≡_, refl, sym, ap, subst, _∙_}
 use mathlib.Core.List.{List, [], _∷_}
-use Prim.Native.Nat.{ℕ, zero, suc, _+_, _-_, _<_}
+use Prim.Native.Nat.{ℕ, zero, suc, _+_, _-_, _<_, _≤_}
 use native.Mathlib.Omega.{arith}
 use lib.ListN.{length, getD}
+use Rattle.calibration.specs.declared.table.CalibrationTable.{CalibrationTable}
+use Rattle.calibration.specs.Tables.{table-grid, table-values}
+use Rattle.calibration.proofs.Links.{link-few}
 use Rattle.cnot.specs.declared.link.Link.{Link}
-use Rattle.cnot.specs.Links.{link, links-from, links}
+use Rattle.cnot.specs.Links.{times-of, link, links-from, links}
 
 length-from : (time : ℕ → ℕ → ℕ) (a : ℕ) (cs : List ℕ) → length (links-from time a cs) ≡ length cs
 length-from time a [] = refl
@@ -26,3 +29,7 @@ pub getD-links : (time : ℕ → ℕ → ℕ) (cs : List ℕ) (i : ℕ) (d : Lin
 getD-links time [] i d h = absurd (omega arith)
 getD-links time (a ∷ cs) i d h =
     getD-from time a cs i d (omega arith) ∙ ap (link time (getD (a ∷ cs) i 0)) (let e : suc i ≡ i + 1 = omega arith in ap (λ n. getD (a ∷ cs) n 0) e)
+
+-- no link of a table takes more than 1000
+pub time-few : (t : CalibrationTable) (l : Link) (a b : ℕ) → l ≡ link (times-of t) a b → l .time ≤ 1000
+time-few t l a b e = subst (λ m. m .time ≤ 1000) (sym e) (link-few (table-grid t) (table-values t) (t .ranged) a b)

@@ -1,16 +1,17 @@
 -- How many steps a routed CNOT has, and how long they last. Assumes nothing.
 use mathlib.Core.Path.{_≡_, refl, sym, ap, ap₂, _∙_}
+use mathlib.Core.Bool.{cond}
 use mathlib.Core.List.{List, [], _∷_, _++_, map, reverse, reverse-cons}
 use Prim.Native.Nat.{ℕ, suc, _+_, _-_, _*_, _≤_, _<_}
 use native.Mathlib.Omega.{arith}
 use mathlib.Core.Logic.{_⊎_, inl, inr}
-use Rattle.std.proofs.shelf.Tests.{cases-lt}
+use Rattle.std.proofs.shelf.Tests.{cases-lt, lt-ltb, le-ltb}
 use lib.ListN.{length, getD, take, drop}
 use Rattle.std.specs.shelf.Lists.{joined, sum, sumBy}
 use Rattle.std.proofs.shelf.Lists.{length-append, length-reverse, length-map, length-take-le, length-drop, nil-from-length, take-map, drop-map}
 use Rattle.std.proofs.shelf.Sums.{sumBy-cons, sumBy-append, sumBy-push, sum-map}
 use Rattle.cnot.specs.declared.link.Link.{Link}
-use Rattle.cnot.specs.Links.{front, final, links, route-time, time-over}
+use Rattle.cnot.specs.Links.{front, final, links, operations-along, route-time, time-over}
 use Rattle.cnot.specs.Steps.{Step, lasting, cnot-over, swap-over, routed}
 use Rattle.cnot.proofs.Links.{length-links}
 use Rattle.cnot.proofs.Ways.{final-is}
@@ -80,10 +81,16 @@ lasting-routed ls =
     let g = final-times ls in
     omega arith
 
--- a routed CNOT has operations where its path has two cells or more
-pub routed-some : (time : ℕ → ℕ → ℕ) (cs : List ℕ) → 0 < length (routed (links time cs)) → (2 ≤ length cs) × (length (routed (links time cs)) ≡ 6 * (length cs - 2) + 1)
-routed-some time cs h =
-    elim (cases-lt 1 (length cs)) [
-      | inl l ↦ let n = length-links time cs in let r = length-routed (links time cs) (omega arith) in (omega arith, omega arith)
-      | inr l ↦ let n = length-links time cs in let z = ap (λ ls. length (routed ls)) (nil-from-length (links time cs) (omega arith)) in absurd (omega arith)
+-- as many operations as the cells of the path say
+pub along-none : (n : ℕ) → n < 2 → operations-along n ≡ 0
+along-none n l = ap (λ t. cond t 0 (6 * (n - 2) + 1)) (lt-ltb n 2 l)
+
+pub along-is : (n : ℕ) → 2 ≤ n → operations-along n ≡ 6 * (n - 2) + 1
+along-is n l = ap (λ t. cond t 0 (6 * (n - 2) + 1)) (le-ltb n 2 l)
+
+pub length-along : (time : ℕ → ℕ → ℕ) (cs : List ℕ) → operations-along (length cs) ≡ length (routed (links time cs))
+length-along time cs =
+    elim (cases-lt (length cs) 2) [
+      | inl l ↦ let n = length-links time cs in along-none (length cs) l ∙ ap (λ ls. length (routed ls)) (sym (nil-from-length (links time cs) (omega arith)))
+      | inr l ↦ let n = length-links time cs in let r = length-routed (links time cs) (omega arith) in along-is (length cs) l ∙ omega arith
     ]

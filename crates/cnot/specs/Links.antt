@@ -1,6 +1,8 @@
 -- The links along a path, and how long a CNOT along it lasts. Assumes nothing.
+use mathlib.Core.Bool.{cond}
 use mathlib.Core.List.{List, [], _∷_, map}
 use Prim.Native.Nat.{ℕ, _+_, _-_, _*_}
+use lib.Dec.{ltb}
 use lib.ListN.{length, getD, take, drop}
 use Rattle.std.specs.shelf.Lists.{sum}
 use Rattle.calibration.specs.declared.table.CalibrationTable.{CalibrationTable}
@@ -33,6 +35,10 @@ links-from time a (b ∷ cs) = link time a b ∷ links-from time b cs
 abbrev pub links : (ℕ → ℕ → ℕ) → List ℕ → List Link
 links time [] = []
 links time (a ∷ cs) = links-from time a cs
+
+-- how many operations a CNOT along so many cells has
+abbrev pub operations-along : ℕ → ℕ
+operations-along n = cond (ltb n 2) 0 (6 * (n - 2) + 1)
 
 -- with link times d1 .. dm: 6 (d1 + .. + d(m-1)) + dm
 abbrev pub route-time : List ℕ → ℕ

@@ -9,11 +9,14 @@ use Rattle.std.specs.declared.option.Option.{Option}
 use Rattle.std.specs.shelf.Lists.{joined, sumBy}
 use Rattle.circuit.specs.declared.action.Action.{Action}
 use Rattle.circuit.specs.declared.operation.Operation.{Operation}
-use Rattle.circuit.specs.declared.refusal.Refusal.{Refusal}
-use Rattle.circuit.specs.Refusals.{refuse-if, or-else}
+use Rattle.refusal.specs.declared.Refusal.{Refusal}
+use Rattle.refusal.specs.Refusals.{refuse-if, or-else}
+use Rattle.calibration.specs.declared.table.CalibrationTable.{CalibrationTable}
+use Rattle.route.specs.declared.path.Path.{Path}
+use Rattle.route.specs.Paths.{path-cells}
 use Rattle.cnot.specs.declared.link.Link.{Link}
 use Rattle.cnot.specs.declared.write.Cursor.{Cursor}
-use Rattle.cnot.specs.Links.{front, final}
+use Rattle.cnot.specs.Links.{front, final, times-of, links}
 
 -- an action on cells and how long it lasts
 pub record Step : Type 0 where
@@ -56,10 +59,14 @@ pub record Laid (g : ℕ) (ss : List Step) (was then : List Operation) (c d : Cu
   pub front : take (d .at) then ≡ take (c .at) was ++ placed g (c .time) ss
   pub rest : drop (d .at) then ≡ drop (d .at) was
 
--- why the steps of a gate are not written from a start on to so many places: the start is too large, or there are too few
-abbrev pub writing-refusal : ℕ → ℕ → ℕ → List Step → Option Refusal
-writing-refusal start g places ss = or-else (refuse-if (ltb 1000000 start) (Refusal.StartTooLarge g)) (refuse-if (ltb places (length ss)) Refusal.TooFewPlaces)
+-- why so many operations of the gate g are not written from a start on to so many places: the start is too large, or there are too few
+abbrev pub writing-refusal : ℕ → ℕ → ℕ → ℕ → Option Refusal
+writing-refusal start g places count = or-else (refuse-if (ltb 1000000 start) (Refusal.StartTooLarge g)) (refuse-if (ltb places count) Refusal.TooFewPlaces)
 
--- the operations in the first places, where they are written, and all others as they were
-abbrev pub written-over : Bool → List Operation → List Operation → List Operation
-written-over done was os = cond done (os ++ drop (length os) was) was
+-- the operations in the first places, and all others as they were
+abbrev pub written-first : List Operation → List Operation → List Operation
+written-first was os = os ++ drop (length os) was
+
+-- the steps of a CNOT along a path, by a table of calibration
+abbrev pub routed-along : CalibrationTable → Path → List Step
+routed-along t p = routed (links (times-of t) (path-cells p))

@@ -5,17 +5,16 @@ ghost use Prim.Native.Nat.{_+_, _*_, _-_, _^_, _≤_, _<_};
 ghost use lib.ListN.{length};
 ghost use Rattle.std.specs.Results.{isOk};
 ghost use Rattle.std.specs.shelf.Lists.{joined};
-ghost use Rattle.circuit.specs.Refusals.{ok-unless};
-ghost use Rattle.route.specs.Paths.{path-cells};
-ghost use Rattle.cnot.specs.Links.{front, times-of, links};
-ghost use Rattle.cnot.specs.Steps.{cnot, swap-over, turned-if, routed, placed, Laid, writing-refusal, written-over};
+ghost use Rattle.refusal.specs.Refusals.{ok-unless};
+ghost use Rattle.cnot.specs.Links.{front, times-of, links, operations-along};
+ghost use Rattle.cnot.specs.Steps.{cnot, swap-over, turned-if, routed, routed-along, placed, Laid, writing-refusal, written-first};
 use crate::link::Link;
 use crate::time::link_at;
 use crate::time::operation_count;
 use calibration::table::CalibrationTable;
 use circuit::action::Action;
 use circuit::operation::Operation;
-use circuit::refusal::Refusal;
+use refusal::Refusal;
 use route::path::Path;
 
 // Where the next operation is written, and when it starts.
@@ -105,6 +104,32 @@ fn put_routed(
     put_swaps(table, cells, true, out, over, gate)
 }
 
+// Why so many operations from a start on are not written to so many places.
+fn check(start: u32, gate: u16, places: usize, count: usize) -> Result<(), Refusal>
+    ensures { λ r. ⌜ r ≡ ok-unless (writing-refusal start gate places count) tt ⌝ }
+{
+    if start > 1000000 {
+        return Err(Refusal::StartTooLarge(gate as usize));
+    }
+    if places < count {
+        return Err(Refusal::TooFewPlaces);
+    }
+    Ok(())
+}
+
+// Writes the operations of a CNOT along any path, for which there is room.
+fn put_along(table: &CalibrationTable, cells: &[u8], start: u32, gate: u16, out: &mut [Operation])
+    requires path { ⌜ length (now cells) ≤ 64 ⌝ }
+    requires fits { ⌜ start ≤ 1000000 ⌝ }
+    requires room { ⌜ operations-along (length (now cells)) ≤ length (now out) ⌝ }
+    ensures { λ _. ⌜ now (out .exit) ≡ written-first (now (out .entry)) (placed gate start (routed (links (times-of (now (table .entry))) (now (cells .entry))))) ⌝ }
+{
+    if cells.len() >= 2 {
+        let from = Cursor { at: 0, time: start };
+        let _ = put_routed(table, cells, out, from, gate);
+    }
+}
+
 // Writes the operations of a CNOT along a path, from `start` on and without a gap, to the first places of `out`; answers their count. A start above 1,000,000 or too few places are refused, and nothing is written then.
 pub fn write_cnot(
     table: &CalibrationTable,
@@ -113,19 +138,11 @@ pub fn write_cnot(
     gate: u16,
     out: &mut [Operation],
 ) -> Result<usize, Refusal>
-    ensures answer { λ r. ⌜ r ≡ ok-unless (writing-refusal start gate (length (now (out .entry))) (routed (links (times-of (now (table .entry))) (path-cells (now (path .entry)))))) (length (routed (links (times-of (now (table .entry))) (path-cells (now (path .entry)))))) ⌝ }
-    ensures written { λ r. ⌜ now (out .exit) ≡ written-over (isOk r) (now (out .entry)) (placed gate start (routed (links (times-of (now (table .entry))) (path-cells (now (path .entry)))))) ⌝ }
+    ensures answer { λ r. ⌜ r ≡ ok-unless (writing-refusal start gate (length (now (out .entry))) (length (routed-along (now (table .entry)) (now (path .entry))))) (length (routed-along (now (table .entry)) (now (path .entry)))) ⌝ }
+    ensures written { λ r. ⌜ now (out .exit) ≡ cond (isOk r) (written-first (now (out .entry)) (placed gate start (routed-along (now (table .entry)) (now (path .entry))))) (now (out .entry)) ⌝ }
 {
     let count = operation_count(path);
-    if start > 1000000 {
-        return Err(Refusal::StartTooLarge(gate as usize));
-    }
-    if out.len() < count {
-        return Err(Refusal::TooFewPlaces);
-    }
-    if count > 0 {
-        let from = Cursor { at: 0, time: start };
-        let _ = put_routed(table, path.cells(), out, from, gate);
-    }
+    check(start, gate, out.len(), count)?;
+    put_along(table, path.cells(), start, gate, out);
     Ok(count)
 }

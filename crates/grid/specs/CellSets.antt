@@ -5,12 +5,6 @@ use mathlib.Core.List.{List, [], _∷_}
 use Prim.Native.Nat.{ℕ}
 use lib.Dec.{eqb, ltb}
 use Rattle.orders.specs.Lists.{any}
-use Rattle.bits.specs.Bits.{bit}
-use Rattle.grid.specs.declared.cell_set.CellSet.{CellSet}
-
--- the set has the cell: its bit is 1
-abbrev pub has : CellSet → ℕ → Bool
-has s c = bit (s .bits) c
 
 -- no cell is in it
 abbrev pub no-cells : ℕ → Bool

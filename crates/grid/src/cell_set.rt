@@ -1,9 +1,9 @@
 ghost use mathlib.Core.Path.{_≡_};
-ghost use mathlib.Core.Bool.{true};
-ghost use Prim.Native.Nat.{ℕ};
 ghost use lib.Dec.{ltb};
 ghost use Rattle.std.specs.Orderings.{Decides};
-ghost use Rattle.grid.specs.CellSets.{no-cells, with-cell, listed-cells, has, Common-cell};
+ghost use Rattle.grid.specs.CellSets.{no-cells, with-cell, listed-cells, Common-cell};
+ghost use Rattle.grid.specs.Members.{has};
+use crate::bit_set;
 
 // A set of cells below 64, a bit for each.
 #[derive(Clone, Copy)]
@@ -18,39 +18,34 @@ impl CellSet {
         CellSet { bits: 0 }
     }
 
+    // The set of the cells of a list.
+    pub fn of_cells(cells: &[u8]) -> CellSet
+        ensures { λ r. ⌜ has r ≡ listed-cells (now (cells .entry)) ⌝ }
+    {
+        CellSet {
+            bits: bit_set::bits_of(cells),
+        }
+    }
+
     // Puts the cell in; a cell from 64 on is none, and changes nothing. Answers whether the set has it.
     pub fn insert(&mut self, cell: u8) -> bool
         ensures value { λ r. ⌜ r ≡ ltb cell 64 ⌝ }
         ensures after { λ _. ⌜ has (now (self .exit)) ≡ with-cell cell (has (now (self .entry))) ⌝ }
     {
-        if cell >= 64 {
-            return false;
-        }
-        self.bits |= 1 << cell;
-        true
-    }
-
-    // The set of the cells of a list.
-    pub fn of_cells(cells: &[u8]) -> CellSet
-        ensures { λ r. ⌜ has r ≡ listed-cells (now (cells .entry)) ⌝ }
-    {
-        let mut set = CellSet::new();
-        for cell in cells {
-            let _ = set.insert(*cell);
-        }
-        set
+        self.bits = bit_set::with_bit(self.bits, cell);
+        cell < 64
     }
 
     pub fn contains(self, cell: u8) -> bool
         ensures { λ r. ⌜ r ≡ has self cell ⌝ }
     {
-        cell < 64 && self.bits >> cell & 1 == 1
+        bit_set::has_bit(self.bits, cell)
     }
 
     // Whether the sets have a common cell.
     pub fn meets(self, other: CellSet) -> bool
         ensures { λ r. ⌜ Decides r (Common-cell (has self) (has other)) ⌝ }
     {
-        self.bits & other.bits != 0
+        bit_set::have_common_bit(self.bits, other.bits)
     }
 }

@@ -8,8 +8,8 @@ use lib.ListN.{length}
 use Rattle.std.specs.Results.{isOk}
 use Rattle.std.specs.declared.result.Result.{Result}
 use Rattle.std.proofs.shelf.Tests.{lt-leb}
-use Rattle.circuit.specs.declared.refusal.Refusal.{Refusal}
-use Rattle.circuit.specs.Refusals.{refuse-if, ok-unless}
+use Rattle.refusal.specs.declared.Refusal.{Refusal}
+use Rattle.refusal.specs.Refusals.{refuse-if, ok-unless}
 
 -- what `push` ensures, where the path has fewer than 64 cells
 pub pushed-on : (was then : List ℕ) (cell : ℕ) (r : Result Unit Refusal) → r ≡ ok-unless (refuse-if (leb 64 (length was)) Refusal.TooFewPlaces) tt → then ≡ cond (isOk r) (was ++ (cell ∷ [])) was → length was < 64 → then ≡ was ++ (cell ∷ [])

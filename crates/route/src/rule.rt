@@ -1,5 +1,5 @@
 ghost use mathlib.Core.Path.{_≡_};
-ghost use Rattle.grid.specs.CellSets.{has};
+ghost use Rattle.grid.specs.Members.{has};
 ghost use Rattle.route.specs.Ends.{ends-of};
 ghost use Rattle.route.specs.Paths.{path-cells};
 ghost use Rattle.route.specs.Routes.{Route, Route-lawful, path-between, reserved-between};

@@ -4,8 +4,12 @@ ghost use mathlib.Core.Bool.{Bool};
 ghost use Prim.Native.Nat.{_≤_};
 ghost use Rattle.route.specs.Ends.{ends-of};
 ghost use Rattle.route.specs.Paths.{path-cells};
+ghost use lib.Dec.{eqb};
+ghost use Rattle.orders.specs.Lists.{any};
 ghost use Rattle.grid.specs.Grids.{place};
+ghost use Rattle.grid.specs.Members.{has};
 ghost use Rattle.rules.specs.Bends.{Inside, dist, toward as towardBy, bent-place, step-count, cell-at, bent-path as bentPath};
+use grid::cell_set::CellSet;
 use route::endpoints::Endpoints;
 use route::path::Path;
 
@@ -34,9 +38,15 @@ fn place_on_way(row_first: bool, p: (u8, u8), q: (u8, u8), k: u8) -> (u8, u8)
     let across = distance(p.0, q.0);
     let down = distance(p.1, q.1);
     if row_first {
-        (toward(p.0, q.0, k), toward(p.1, q.1, k.saturating_sub(across)))
+        (
+            toward(p.0, q.0, k),
+            toward(p.1, q.1, k.saturating_sub(across)),
+        )
     } else {
-        (toward(p.0, q.0, k.saturating_sub(down)), toward(p.1, q.1, k))
+        (
+            toward(p.0, q.0, k.saturating_sub(down)),
+            toward(p.1, q.1, k),
+        )
     }
 }
 
@@ -77,4 +87,12 @@ pub(crate) fn bent_path(row_first: bool, ends: Endpoints) -> Path
         let _ = path.push(cell_on_way(ends, row_first, p, q, k));
     }
     path
+}
+
+// The cells of that path as a set.
+pub(crate) fn bent_path_cells(row_first: bool, ends: Endpoints) -> CellSet
+    ensures { λ r. ⌜ has r ≡ (λ c. any (eqb c) (bentPath «row_first» (ends-of ends .grid) (ends-of ends .from) (ends-of ends .to))) ⌝ }
+{
+    let path = bent_path(row_first, ends);
+    CellSet::of_cells(path.cells())
 }

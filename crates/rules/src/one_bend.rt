@@ -1,5 +1,6 @@
 ghost use Rattle.rules.specs.Bends.{one-bend};
 use crate::bend::bent_path;
+use crate::bend::bent_path_cells;
 use grid::cell_set::CellSet;
 use route::endpoints::Endpoints;
 use route::path::Path;
@@ -21,7 +22,6 @@ pub impl RouteRule for OneBend as OneBendRule {
     }
 
     fn reserved(&self, ends: Endpoints, choice: u8) -> CellSet {
-        let path = bent_path(choice == 0, ends);
-        CellSet::of_cells(path.cells())
+        bent_path_cells(choice == 0, ends)
     }
 }

@@ -6,15 +6,15 @@ ghost use lib.ListN.{set as setAt};
 ghost use Rattle.std.specs.Of.Vec.{vec-items};
 ghost use Rattle.std.specs.Results.{isOk, Cases};
 ghost use Rattle.std.specs.declared.option.Option.the-variants.{Some, None};
-ghost use Rattle.circuit.specs.Refusals.{ok-unless};
+ghost use Rattle.refusal.specs.Refusals.{ok-unless};
 ghost use Rattle.grid.specs.Grids.{grid-of, between, cells as cellsOf};
 ghost use Rattle.calibration.specs.Calibrations.{has-east, has-south, link-ok, calibration-ok, first-values, first-calibration, values-at, calibrating-refusal};
 ghost use Rattle.calibration.specs.Tables.{table-grid, table-values};
 use crate::table::CalibrationTable;
 use crate::values::Calibration;
-use circuit::memory::RefusalFromRefused;
-use circuit::refusal::Refusal;
 use grid::machine::Machine;
+use refusal::Refusal;
+use refusal::memory::RefusalFromRefused;
 use std::alloc::Global;
 
 // Whether the value is from 1 to the highest.
@@ -28,7 +28,11 @@ fn is_from_one(value: u32, highest: u32) -> bool
 fn is_link_time(there: bool, time: u32) -> bool
     ensures { λ r. ⌜ r ≡ link-ok there time ⌝ }
 {
-    if there { is_from_one(time, 1000) } else { time == 0 }
+    if there {
+        is_from_one(time, 1000)
+    } else {
+        time == 0
+    }
 }
 
 // Whether a cell has a neighbour to the east, and whether to the south.
@@ -36,7 +40,8 @@ fn neighbours_after(machine: Machine, cell: u8) -> (bool, bool)
     ensures { λ r. ⌜ r ≡ (has-east (grid-of machine) cell, has-south (grid-of machine) cell) ⌝ }
 {
     let (x, y) = machine.place(cell);
-    (x < machine.columns() - 1, y < machine.rows() - 1)
+    let (columns, rows) = machine.size();
+    (x < columns - 1, y < rows - 1)
 }
 
 // Whether the values may be those of the cell.
@@ -98,11 +103,9 @@ impl CalibrationTable {
         self.cells.get(cell as usize).copied()
     }
 
-    // Gives a cell other values, or refuses and changes nothing.
-    pub fn set(&mut self, cell: usize, values: Calibration) -> Result<(), Refusal>
-        ensures answer { λ r. ⌜ r ≡ ok-unless (calibrating-refusal (table-grid (now (self .entry))) cell values) tt ⌝ }
-        ensures grid { λ _. ⌜ table-grid (now (self .exit)) ≡ table-grid (now (self .entry)) ⌝ }
-        ensures after { λ r. ⌜ table-values (now (self .exit)) ≡ cond (isOk r) (setAt (table-values (now (self .entry))) cell values) (table-values (now (self .entry))) ⌝ }
+    // Why the values are refused for the cell: the machine has no such cell, or one is out of range.
+    fn check(&self, cell: usize, values: Calibration) -> Result<(), Refusal>
+        ensures { λ r. ⌜ r ≡ ok-unless (calibrating-refusal (table-grid (now (self .entry))) cell values) tt ⌝ }
     {
         if cell >= self.machine.cells() as usize {
             return Err(Refusal::NoSuchCell(cell));
@@ -110,7 +113,28 @@ impl CalibrationTable {
         if !is_in_range(self.machine, cell as u8, values) {
             return Err(Refusal::ValueOutOfRange(cell));
         }
-        self.cells[cell] = values;
         Ok(())
+    }
+
+    // Gives a cell other values, which are not refused.
+    fn put(&mut self, cell: usize, values: Calibration)
+        requires { ⌜ calibrating-refusal (table-grid (now self)) cell values ≡ None ⌝ }
+        ensures grid { λ _. ⌜ table-grid (now (self .exit)) ≡ table-grid (now (self .entry)) ⌝ }
+        ensures after { λ _. ⌜ table-values (now (self .exit)) ≡ setAt (table-values (now (self .entry))) cell values ⌝ }
+    {
+        self.cells[cell] = values;
+    }
+
+    // Gives a cell other values, or refuses and changes nothing.
+    pub fn set(&mut self, cell: usize, values: Calibration) -> Result<(), Refusal>
+        ensures answer { λ r. ⌜ r ≡ ok-unless (calibrating-refusal (table-grid (now (self .entry))) cell values) tt ⌝ }
+        ensures grid { λ _. ⌜ table-grid (now (self .exit)) ≡ table-grid (now (self .entry)) ⌝ }
+        ensures after { λ r. ⌜ table-values (now (self .exit)) ≡ cond (isOk r) (setAt (table-values (now (self .entry))) cell values) (table-values (now (self .entry))) ⌝ }
+    {
+        let checked = self.check(cell, values);
+        if checked.is_ok() {
+            self.put(cell, values);
+        }
+        checked
     }
 }

@@ -1,9 +1,25 @@
 ghost use mathlib.Core.Path.{_≡_};
-ghost use Prim.Native.Nat.{_<_};
+ghost use Prim.Native.Nat.{_+_, _*_, _/_, _%_, _<_, _≤_};
 ghost use Rattle.std.specs.Orderings.{Decides};
 ghost use Rattle.grid.specs.Grids.{sized, grid-as, grid-of, cells as cellsOf, number as numberAt, place as placeOf, next-to, beside, are-neighbours, Neighbours};
 use crate::machine::Machine;
-use circuit::refusal::Refusal;
+use refusal::Refusal;
+
+// The product of two numbers up to 8.
+fn product(a: u8, b: u8) -> u8
+    requires { ⌜ a ≤ 8 ⌝ ∗ ⌜ b ≤ 8 ⌝ }
+    ensures { λ r. ⌜ r ≡ a * b ⌝ }
+{
+    a * b
+}
+
+// The number of the place (x, y) row by row.
+fn row_major(columns: u8, x: u8, y: u8) -> u16
+    ensures value { λ r. ⌜ r ≡ y * columns + x ⌝ }
+    ensures back { λ r. ⌜ (x < columns → (r % columns ≡ x) × (r / columns ≡ y)) ⌝ }
+{
+    y as u16 * columns as u16 + x as u16
+}
 
 // Whether the numbers differ by 1.
 fn is_next_to(m: u8, n: u8) -> bool
@@ -33,23 +49,18 @@ impl Machine {
         })
     }
 
-    pub fn columns(self) -> u8
-        ensures { λ r. ⌜ r ≡ grid-of self .columns ⌝ }
+    // How many columns and how many rows there are.
+    pub fn size(self) -> (u8, u8)
+        ensures { λ r. ⌜ r ≡ (grid-of self .columns, grid-of self .rows) ⌝ }
     {
-        self.columns
-    }
-
-    pub fn rows(self) -> u8
-        ensures { λ r. ⌜ r ≡ grid-of self .rows ⌝ }
-    {
-        self.rows
+        (self.columns, self.rows)
     }
 
     // How many cells there are.
     pub fn cells(self) -> u8
         ensures { λ r. ⌜ r ≡ cellsOf (grid-of self) ⌝ }
     {
-        self.rows * self.columns
+        product(self.rows, self.columns)
     }
 
     // The number of the cell at column x and row y.
@@ -57,7 +68,7 @@ impl Machine {
         ensures value { λ r. ⌜ r ≡ numberAt (grid-of self) x y ⌝ }
         ensures back { λ r. ⌜ (x < grid-of self .columns → placeOf (grid-of self) r ≡ (x, y)) ⌝ }
     {
-        y as u16 * self.columns as u16 + x as u16
+        row_major(self.columns, x, y)
     }
 
     // The column and the row of a cell.

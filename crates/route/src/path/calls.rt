@@ -1,14 +1,14 @@
 ghost use mathlib.Core.Path.{_≡_};
 ghost use mathlib.Core.Bool.{cond};
 ghost use mathlib.Core.List.{[], _∷_, _++_};
-ghost use Prim.Native.Nat.{_≤_};
+ghost use Prim.Native.Nat.{_≤_, _<_};
 ghost use lib.Dec.{leb};
 ghost use lib.ListN.{length};
 ghost use Rattle.std.specs.Results.{isOk};
-ghost use Rattle.circuit.specs.Refusals.{refuse-if, ok-unless};
+ghost use Rattle.refusal.specs.Refusals.{refuse-if, ok-unless};
 ghost use Rattle.route.specs.Paths.{path-cells};
 use crate::path::Path;
-use circuit::refusal::Refusal;
+use refusal::Refusal;
 
 impl Path {
     // A path of no cells yet.
@@ -21,17 +21,25 @@ impl Path {
         }
     }
 
+    // Goes on to the cell, where there is room.
+    fn put(&mut self, cell: u8)
+        requires { ⌜ length (path-cells (now self)) < 64 ⌝ }
+        ensures { λ _. ⌜ path-cells (now (self .exit)) ≡ path-cells (now (self .entry)) ++ (cell ∷ []) ⌝ }
+    {
+        let len = self.len;
+        self.places[len] = cell;
+        self.len = len + 1;
+    }
+
     // Goes on to the cell, or refuses where there are 64 cells already.
     pub fn push(&mut self, cell: u8) -> Result<(), Refusal>
         ensures answer { λ r. ⌜ r ≡ ok-unless (refuse-if (leb 64 (length (path-cells (now (self .entry))))) Refusal.TooFewPlaces) tt ⌝ }
         ensures after { λ r. ⌜ path-cells (now (self .exit)) ≡ cond (isOk r) (path-cells (now (self .entry)) ++ (cell ∷ [])) (path-cells (now (self .entry))) ⌝ }
     {
-        let len = self.len;
-        if len >= 64 {
+        if self.cells().len() >= 64 {
             return Err(Refusal::TooFewPlaces);
         }
-        self.places[len] = cell;
-        self.len = len + 1;
+        self.put(cell);
         Ok(())
     }
 

@@ -3,10 +3,15 @@ use mathlib.Core.List.{[], _∷_}
 use Rattle.orders.specs.Ranks.{compared, precedes}
 use Rattle.orders.proofs.Keys.{last-compared, more-compared}
 use Rattle.std.specs.Options.{valueOr}
+use Rattle.std.specs.Orderings.{isEq}
+use Rattle.std.proofs.shelf.Ways.{decides-at}
+use Rattle.orders.proofs.Compared.{equal-decides}
+use Rattle.circuit.specs.Operations.{operation-before}
+use Rattle.circuit.proofs.Known.{operations-total}
 use Rattle.circuit.proofs.order.compare.Needs as need
 
-pub returns : need.returns
-returns c =
+is-compared : (c : need.After-then-5) → c .then-5 .result ≡ compared operation-before (c .args .a) (c .args .b)
+is-compared c =
     let a = c .args .a in
     let b = c .args .b in
     let gates = last-compared (a .gate) (b .gate) (c .cmp-gates .result) (c .cmp-gates .ensures) in
@@ -18,3 +23,6 @@ returns c =
     let target-2 = c .unwrap-or-2 .ensures ∙ ap (λ o. valueOr o 0) (c .second-wire-2 .ensures) in
     more-compared (a .start) (b .start) (c .first-wire .result ∷ a .length ∷ c .kind-place .result ∷ c .unwrap-or .result ∷ a .gate ∷ []) (c .first-wire-2 .result ∷ b .length ∷ c .kind-place-2 .result ∷ c .unwrap-or-2 .result ∷ b .gate ∷ []) (c .cmp-starts .result) _ _ (c .cmp-starts .ensures) firsts (c .then-5 .ensures)
     ∙ (λ i. compared precedes (a .start ∷ c .first-wire .ensures i ∷ a .length ∷ c .kind-place .ensures i ∷ target i ∷ a .gate ∷ []) (b .start ∷ c .first-wire-2 .ensures i ∷ b .length ∷ c .kind-place-2 .ensures i ∷ target-2 i ∷ b .gate ∷ []))
+
+pub returns : need.returns
+returns c = record { value = is-compared c; equal = decides-at _ _ (ap isEq (is-compared c)) (equal-decides operations-total (c .args .a) (c .args .b)) }

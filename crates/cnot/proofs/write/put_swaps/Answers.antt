@@ -9,7 +9,7 @@ use Rattle.std.proofs.shelf.Sums.{sumBy-cons}
 use Rattle.cnot.specs.declared.link.Link.{Link}
 use Rattle.cnot.specs.Links.{front, times-of, links}
 use Rattle.cnot.specs.Steps.{swap-over, turned-if, Laid}
-use Rattle.cnot.proofs.Links.{length-links}
+use Rattle.cnot.proofs.Links.{length-links, time-few}
 use Rattle.cnot.proofs.Ways.{length-way, place-below, way-link, swaps-more}
 use Rattle.cnot.proofs.Laying.{laid-none, laid-more}
 use Rattle.cnot.proofs.write.put_swaps.Needs as need
@@ -24,7 +24,7 @@ pub put-swap-cursor-requires : need.put-swap-cursor-requires
 put-swap-cursor-requires c κs =
     let a = c .loop-k .inv .1 in
     let b = c .loop-k .inv .2 in
-    let d = c .link-at-link .ensures .few in
+    let d = time-few (c .args .table .now) (c .link-at-link .result) _ _ (c .link-at-link .ensures) in
     let e = c .loop-k .kept .out in
     record { room = omega (arith, c .pre .room); fits = omega (arith, c .pre .fits) }
 
@@ -37,14 +37,14 @@ loop-k-again c =
     let l = c .link-at-link .result in
     let n = length-way (c .args .back) (links time cs) in
     let m = length-links time cs in
-    let e : l ≡ getD way k l = c .link-at-link .ensures .value ∙ way-link (c .args .back) time cs k (c .place-on-way .result) l (c .loop-k-test .taken) (c .place-on-way .ensures) in
+    let e : l ≡ getD way k l = c .link-at-link .ensures ∙ way-link (c .args .back) time cs k (c .place-on-way .result) l (c .loop-k-test .taken) (c .place-on-way .ensures) in
     let more : joined swap-over (take (k + 1) way) ≡ joined swap-over (take k way) ++ swap-over l = swaps-more way k l (omega arith) ∙ ap (λ x. joined swap-over (take k way) ++ swap-over x) (sym e) in
     let s = c .put-swap-cursor .ensures in
     let at = s .at in
     let t = s .time in
     let a = c .loop-k .inv .1 in
     let b = c .loop-k .inv .2 in
-    let d = c .link-at-link .ensures .few in
+    let d = time-few (c .args .table .now) (c .link-at-link .result) _ _ (c .link-at-link .ensures) in
     (subst (λ ss. Laid (c .args .gate) ss (c .args .out .now) (c .put-swap-cursor .last .out) (c .args .from) (c .put-swap-cursor .result)) (sym more) (laid-more (c .args .gate) (joined swap-over (take k way)) (swap-over l) _ _ _ _ _ _ (c .loop-k .inv .0) s), omega arith, omega arith)
 
 pub returns : need.returns

@@ -4,7 +4,7 @@ use Prim.Native.Nat.{ℕ, _+_, _<_}
 use native.Mathlib.Omega.{arith}
 use lib.Dec.{ltb}
 use Rattle.grid.specs.Grids.{grid-of, cells}
-use Rattle.grid.specs.CellSets.{has}
+use Rattle.grid.specs.Members.{has}
 use Rattle.grid.proofs.Fits.{machine-fit, few-cells}
 use Rattle.rules.specs.Bends.{in-rectangle}
 use Rattle.rules.proofs.Scans.{Scanned, scanned-none, scanned-in, scanned-out}

@@ -1,4 +1,4 @@
-use Rattle.grid.specs.CellSets.{has}
+use Rattle.grid.specs.Members.{has}
 use Rattle.route.specs.Ends.{ends-of}
 use Rattle.rules.specs.Bends.{in-rectangle}
 use Rattle.rules.proofs.Scans.{Scanned}
