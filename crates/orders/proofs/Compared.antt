@@ -1,7 +1,7 @@
 -- What `cmp` answers under a total order. Assumes nothing.
 use mathlib.Core.Path.{_≡_, refl, sym, ap, ap₂, subst, _∙_}
 use mathlib.Core.Bool.{Bool, true, false, cond}
-use Rattle.std.specs.Orderings.{Decides, isEq}
+use Rattle.std.specs.Orderings.{Decides, isEq, isLt}
 use Rattle.std.specs.declared.cmp.Ordering.the-variants.{Less, Equal, Greater}
 use Rattle.std.proofs.shelf.Tests.{both-ways, true≢false, false≢true}
 use Rattle.orders.specs.Ranks.{Total-order, compared}
@@ -23,3 +23,12 @@ module _ {X : Type 0} {before : X → X → Bool} (o : Total-order before) where
       go true b e f h = absurd (false≢true (sym (ap (λ t. isEq (cond t Less (cond (before y x) Greater Equal))) e) ∙ h))
       go false true e f h = absurd (false≢true (sym (ap₂ (λ s t. isEq (cond s Less (cond t Greater Equal))) e f) ∙ h))
       go false false e f h = o .apart x y e f
+
+-- `Less` is answered exactly where the first comes before the second
+pub less-is : {X : Type 0} (before : X → X → Bool) (x y : X) → isLt (compared before x y) ≡ before x y
+less-is before x y = go (before x y) (before y x)
+  where
+    go : (a b : Bool) → isLt (cond a Less (cond b Greater Equal)) ≡ a
+    go true b = refl
+    go false true = refl
+    go false false = refl

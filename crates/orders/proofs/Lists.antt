@@ -6,7 +6,8 @@ use mathlib.Core.List.{List, [], _∷_, _++_}
 use Prim.Native.Nat.{ℕ, zero, suc, _+_, _<_}
 use native.Mathlib.Omega.{arith}
 use lib.ListN.{length, getD, take}
-use Rattle.std.proofs.shelf.Elements.{all-from-getD}
+use Rattle.std.specs.shelf.Lists.{All}
+use Rattle.std.proofs.shelf.Elements.{all-from-getD, all-append}
 use Rattle.std.proofs.shelf.Lists.{take-more}
 use Rattle.std.proofs.shelf.Tests.{or-cases, or-left, or-right, false≢true}
 use Rattle.orders.specs.Lists.{Pairs, any}
@@ -38,3 +39,7 @@ any-push test (y ∷ ys) x = ap (λ t. test y || t) (any-push test ys x) ∙ or-
 -- one element more
 pub any-more : {X : Type 0} (test : X → Bool) (xs : List X) (i : ℕ) (d : X) → i < length xs → any test (take (i + 1) xs) ≡ (test (getD xs i d) || any test (take i xs))
 any-more test xs i d h = ap (any test) (take-more xs i d h) ∙ any-push test (take i xs) (getD xs i d)
+
+pub pairs-append : {X : Type 0} (R : X → X → Type 0) (xs ys : List X) → Pairs R xs → Pairs R ys → All (λ x. All (R x) ys) xs → Pairs R (xs ++ ys)
+pairs-append R [] ys p q a = q
+pairs-append R (x ∷ xs) ys p q a = (all-append (R x) xs ys (p .0) (a .0), pairs-append R xs ys (p .1) q (a .1))

@@ -1,2 +1,4 @@
 pub mod Lists
+pub mod Perms
 pub mod Ranks
+pub mod Sorting
