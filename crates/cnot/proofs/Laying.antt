@@ -5,8 +5,9 @@ use Prim.Native.Nat.{ℕ, suc, _+_, _-_, _≤_, _<_}
 use native.Mathlib.Omega.{arith}
 use native.Mathlib.Nat.{add-zero}
 use lib.ListN.{length, take, drop, set}
-use Rattle.std.proofs.shelf.Lists.{append-nil, append-assoc, length-append, drop-drop, take-more-set, drop-set-lt, take-append-drop}
+use Rattle.std.proofs.shelf.Lists.{append-nil, append-assoc, length-append, take-more-set, drop-set-lt, take-append-drop}
 use Rattle.std.proofs.shelf.Sums.{sumBy-cons, sumBy-append}
+use Rattle.orders.proofs.Lists.{drop-later}
 use Rattle.circuit.specs.declared.operation.Operation.{Operation}
 use Rattle.cnot.specs.declared.write.Cursor.{Cursor}
 use Rattle.cnot.specs.Steps.{Step, lasting, placed, Laid}
@@ -20,12 +21,6 @@ placed-append g t (x ∷ xs) ys =
 pub length-placed : (g t : ℕ) (ss : List Step) → length (placed g t ss) ≡ length ss
 length-placed g t [] = refl
 length-placed g t (s ∷ ss) = ap suc (length-placed g (t + s .length) ss)
-
--- what is alike from k on is alike from n on
-drop-later : {X : Type 0} (a b : List X) (k n : ℕ) → k ≤ n → drop k a ≡ drop k b → drop n a ≡ drop n b
-drop-later a b k n le h =
-    let e : n ≡ k + (n - k) = omega arith in
-    ap (λ m. drop m a) e ∙ sym (drop-drop (n - k) k a) ∙ ap (drop (n - k)) h ∙ drop-drop (n - k) k b ∙ ap (λ m. drop m b) (sym e)
 
 pub laid-none : (g : ℕ) (os : List Operation) (c : Cursor) → Laid g [] os os c c
 laid-none g os c = record { at = sym (add-zero (c .at)); time = sym (add-zero (c .time)); front = sym (append-nil (take (c .at) os)); rest = refl }

@@ -1,14 +1,14 @@
 -- Facts by places, and tests of some element. Assumes nothing.
-use mathlib.Core.Path.{_≡_, refl, ap, _∙_}
+use mathlib.Core.Path.{_≡_, refl, sym, ap, _∙_}
 use mathlib.Core.Bool.{Bool, true, false, _||_}
 use mathlib.Core.Logic.{inl, inr}
 use mathlib.Core.List.{List, [], _∷_, _++_}
-use Prim.Native.Nat.{ℕ, zero, suc, _+_, _<_}
+use Prim.Native.Nat.{ℕ, zero, suc, _+_, _-_, _<_, _≤_}
 use native.Mathlib.Omega.{arith}
-use lib.ListN.{length, getD, take}
+use lib.ListN.{length, getD, take, drop}
 use Rattle.std.specs.shelf.Lists.{All}
 use Rattle.std.proofs.shelf.Elements.{all-from-getD, all-append}
-use Rattle.std.proofs.shelf.Lists.{take-more}
+use Rattle.std.proofs.shelf.Lists.{take-more, drop-drop}
 use Rattle.std.proofs.shelf.Tests.{or-cases, or-left, or-right, false≢true}
 use Rattle.orders.specs.Lists.{Pairs, any}
 
@@ -43,3 +43,9 @@ any-more test xs i d h = ap (any test) (take-more xs i d h) ∙ any-push test (t
 pub pairs-append : {X : Type 0} (R : X → X → Type 0) (xs ys : List X) → Pairs R xs → Pairs R ys → All (λ x. All (R x) ys) xs → Pairs R (xs ++ ys)
 pairs-append R [] ys p q a = q
 pairs-append R (x ∷ xs) ys p q a = (all-append (R x) xs ys (p .0) (a .0), pairs-append R xs ys (p .1) q (a .1))
+
+-- what is alike from k on is alike from n on
+pub drop-later : {X : Type 0} (a b : List X) (k n : ℕ) → k ≤ n → drop k a ≡ drop k b → drop n a ≡ drop n b
+drop-later a b k n le h =
+    let e : n ≡ k + (n - k) = omega arith in
+    ap (λ m. drop m a) e ∙ sym (drop-drop (n - k) k a) ∙ ap (drop (n - k)) h ∙ drop-drop (n - k) k b ∙ ap (λ m. drop m b) (sym e)

@@ -1,0 +1,3 @@
+// Examples that are run, layer by layer.
+#[cfg(test)]
+mod queues;
