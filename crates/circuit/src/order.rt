@@ -3,9 +3,9 @@ ghost use mathlib.Core.Path.{_≡_};
 ghost use Prim.Native.Nat.{_+_};
 ghost use Rattle.std.specs.Orderings.{Decides, isEq};
 ghost use Rattle.std.specs.declared.option.Option.the-variants.{Some};
-ghost use Rattle.orders.specs.Ranks.{compared};
+ghost use Rattle.orders.specs.Ranks.{compared, by-key};
 ghost use Rattle.circuit.specs.Actions.{kind-place as kindPlace};
-ghost use Rattle.circuit.specs.Operations.{operation-before, operation-end};
+ghost use Rattle.circuit.specs.Operations.{later-fields, cell-and-later, operation-before, operation-end};
 use crate::action::Action;
 use crate::action::Plain;
 use crate::action::Single;
@@ -29,13 +29,10 @@ fn kind_place(action: Action) -> u8
     }
 }
 
-// How two operations compare, and when as equals.
-fn compare(a: Operation, b: Operation) -> Ordering
-    ensures value { λ r. ⌜ r ≡ compared operation-before a b ⌝ }
-    ensures equal { λ r. ⌜ Decides (isEq r) (a ≡ b) ⌝ }
+// How two operations compare that start at one time on one cell: by length, kind, second cell and gate.
+fn compare_others(a: Operation, b: Operation) -> Ordering
+    ensures { λ r. ⌜ r ≡ compared (by-key later-fields) a b ⌝ }
 {
-    let starts = a.start.cmp(&b.start);
-    let firsts = a.action.first_wire().cmp(&b.action.first_wire());
     let lengths = a.length.cmp(&b.length);
     let kinds = kind_place(a.action).cmp(&kind_place(b.action));
     let targets = a.action
@@ -43,7 +40,28 @@ fn compare(a: Operation, b: Operation) -> Ordering
         .unwrap_or(0)
         .cmp(&b.action.second_wire().unwrap_or(0));
     let gates = a.gate.cmp(&b.gate);
-    starts.then(firsts.then(lengths.then(kinds.then(targets.then(gates)))))
+    lengths.then(kinds.then(targets.then(gates)))
+}
+
+// How two operations compare that start at one time: by first cell, then by the others.
+fn compare_cells(a: Operation, b: Operation) -> Ordering
+    ensures { λ r. ⌜ r ≡ compared (by-key cell-and-later) a b ⌝ }
+{
+    match a.action.first_wire().cmp(&b.action.first_wire()) {
+        Ordering::Equal => compare_others(a, b),
+        apart => apart,
+    }
+}
+
+// How two operations compare, and when as equals.
+fn compare(a: Operation, b: Operation) -> Ordering
+    ensures value { λ r. ⌜ r ≡ compared operation-before a b ⌝ }
+    ensures equal { λ r. ⌜ Decides (isEq r) (a ≡ b) ⌝ }
+{
+    match a.start.cmp(&b.start) {
+        Ordering::Equal => compare_cells(a, b),
+        apart => apart,
+    }
 }
 
 impl Operation {

@@ -85,3 +85,13 @@ last-compared x y Greater h = then-compared x y [] [] Greater h
 -- and by one more in front of it
 pub more-compared : (x y : ℕ) (xs ys : List ℕ) (r s t : Ordering) → Ranked r (x < y) (x ≡ y) (y < x) → s ≡ compared precedes xs ys → t ≡ thenBy r s → t ≡ compared precedes (x ∷ xs) (y ∷ ys)
 more-compared x y xs ys r s t h e f = f ∙ ap (thenBy r) e ∙ then-compared x y xs ys r h
+
+-- where the first numbers differ, their comparison decides
+pub apart-compared : (x y : ℕ) (xs ys : List ℕ) (r : Ordering) → Ranked r (x < y) (x ≡ y) (y < x) → (r ≡ Equal → ⊥) → r ≡ compared precedes (x ∷ xs) (y ∷ ys)
+apart-compared x y xs ys Less h n = then-compared x y xs ys Less h
+apart-compared x y xs ys Equal h n = absurd (n refl)
+apart-compared x y xs ys Greater h n = then-compared x y xs ys Greater h
+
+-- where they agree, what follows decides
+pub same-compared : (x y : ℕ) (xs ys : List ℕ) (r s : Ordering) → Ranked r (x < y) (x ≡ y) (y < x) → r ≡ Equal → s ≡ compared precedes xs ys → s ≡ compared precedes (x ∷ xs) (y ∷ ys)
+same-compared x y xs ys r s h e f = f ∙ ap (λ t. thenBy t (compared precedes xs ys)) (sym e) ∙ then-compared x y xs ys r h

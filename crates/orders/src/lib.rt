@@ -15,3 +15,17 @@ pub trait Ranked: Copy + Ord {
     // `cmp` answers by `before` and by nothing else.
     law answers: { (x y : Self) (r : Ordering) → Self·Ord .orders x y r → r ≡ compared before x y };
 }
+
+// The answer of `cmp`, told by the order.
+fn is_less<T: Ranked>(x: T, y: T) -> bool
+    ensures { λ r. ⌜ r ≡ T·Ranked .before x y ⌝ }
+{
+    x.cmp(&y).is_lt()
+}
+
+// Whether the first comes before the second.
+pub fn comes_before<T: Ranked>(x: &T, y: &T) -> bool
+    ensures { λ r. ⌜ r ≡ T·Ranked .before (now (x .entry)) (now (y .entry)) ⌝ }
+{
+    is_less(*x, *y)
+}

@@ -57,7 +57,8 @@ impl<'a, T: Ranked> Queue<'a, T> {
         if self.is_empty() {
             return None;
         }
-        Some(self.take_least())
+        let at = self.least();
+        Some(self.take(at))
     }
 
     // Ends the queue: what waited then stands in order in the first places, and the others are as they were. Answers how many waited.

@@ -10,6 +10,7 @@ ghost use Rattle.orders.specs.Sorting.{put-in, sorted, Sorted};
 ghost use Rattle.queue.specs.Held.{count, room, waiting, held, Lent, Leads};
 use crate::Queue;
 use orders::Ranked;
+use orders::comes_before;
 use sorting::sort;
 
 // The first `len` places in order.
@@ -42,21 +43,21 @@ impl<'a, T: Ranked> Queue<'a, T> {
         self.len = n + 1;
     }
 
-    // The least leaves.
-    pub(super) fn take_least(&mut self) -> T
-        requires { ⌜ 0 < count (now self) ⌝ }
+    // The one at a place leaves, where it is the least.
+    pub(super) fn take(&mut self, at: usize) -> T
+        requires some { ⌜ at < count (now self) ⌝ }
+        requires least { ⌜ Leads (T·Ranked .before) (now (now self .places)) at (count (now self)) ⌝ }
         ensures leaves { λ r. ⌜ held (T·Ranked .before) (now (self .entry)) ≡ r ∷ held (T·Ranked .before) (now (self .exit)) ⌝ }
         ensures counted { λ _. ⌜ count (now (self .exit)) + 1 ≡ count (now (self .entry)) ⌝ }
         ensures lent { λ _. ⌜ Lent (count (now (self .entry))) (now (self .entry)) (now (self .exit)) ⌝ }
     {
-        let at = self.least();
         let x = self.places[at];
         self.close_up(at);
         x
     }
 
     // Where the least stands, the first such.
-    fn least(&self) -> usize
+    pub(super) fn least(&self) -> usize
         requires { ⌜ 0 < count (now self) ⌝ }
         ensures within { λ r. ⌜ r < count (now (self .entry)) ⌝ }
         ensures leads { λ r. ⌜ Leads (T·Ranked .before) (now (now (self .entry) .places)) r (count (now (self .entry))) ⌝ }
@@ -64,7 +65,7 @@ impl<'a, T: Ranked> Queue<'a, T> {
         let s = &*self.places;
         let mut best = 0;
         for k in 1..self.len {
-            if s[k].cmp(&s[best]).is_lt() {
+            if comes_before(&s[k], &s[best]) {
                 best = k;
             }
         }

@@ -1,28 +1,28 @@
-use mathlib.Core.Path.{_≡_, ap, _∙_}
-use mathlib.Core.List.{[], _∷_}
-use Rattle.orders.specs.Ranks.{compared, precedes}
-use Rattle.orders.proofs.Keys.{last-compared, more-compared}
-use Rattle.std.specs.Options.{valueOr}
-use Rattle.std.specs.Orderings.{isEq}
+use mathlib.Core.Path.{_≡_, ap}
+use Rattle.std.specs.Orderings.{Decides, isEq}
+use Rattle.std.specs.declared.cmp.Ordering.{Ordering}
 use Rattle.std.proofs.shelf.Ways.{decides-at}
+use Rattle.orders.specs.Ranks.{compared}
+use Rattle.orders.proofs.Keys.{apart-compared, same-compared}
 use Rattle.orders.proofs.Compared.{equal-decides}
-use Rattle.circuit.specs.Operations.{operation-before}
+use Rattle.circuit.specs.declared.operation.Operation.{Operation}
+use Rattle.circuit.specs.Operations.{cell-and-later, operation-before}
 use Rattle.circuit.proofs.Known.{operations-total}
 use Rattle.circuit.proofs.order.compare.Needs as need
 
-is-compared : (c : need.After-then-5) → c .then-5 .result ≡ compared operation-before (c .args .a) (c .args .b)
-is-compared c =
+equal : (a b : Operation) (r : Ordering) → r ≡ compared operation-before a b → Decides (isEq r) (a ≡ b)
+equal a b r e = decides-at _ _ (ap isEq e) (equal-decides operations-total a b)
+
+pub returns-in-Equal : need.returns-in-Equal
+returns-in-Equal c =
     let a = c .args .a in
     let b = c .args .b in
-    let gates = last-compared (a .gate) (b .gate) (c .cmp-gates .result) (c .cmp-gates .ensures) in
-    let targets = more-compared (c .unwrap-or .result) (c .unwrap-or-2 .result) (a .gate ∷ []) (b .gate ∷ []) (c .cmp-targets .result) _ _ (c .cmp-targets .ensures) gates (c .then .ensures) in
-    let kinds = more-compared (c .kind-place .result) (c .kind-place-2 .result) (c .unwrap-or .result ∷ a .gate ∷ []) (c .unwrap-or-2 .result ∷ b .gate ∷ []) (c .cmp-kinds .result) _ _ (c .cmp-kinds .ensures) targets (c .then-2 .ensures) in
-    let lengths = more-compared (a .length) (b .length) (c .kind-place .result ∷ c .unwrap-or .result ∷ a .gate ∷ []) (c .kind-place-2 .result ∷ c .unwrap-or-2 .result ∷ b .gate ∷ []) (c .cmp-lengths .result) _ _ (c .cmp-lengths .ensures) kinds (c .then-3 .ensures) in
-    let firsts = more-compared (c .first-wire .result) (c .first-wire-2 .result) (a .length ∷ c .kind-place .result ∷ c .unwrap-or .result ∷ a .gate ∷ []) (b .length ∷ c .kind-place-2 .result ∷ c .unwrap-or-2 .result ∷ b .gate ∷ []) (c .cmp-firsts .result) _ _ (c .cmp-firsts .ensures) lengths (c .then-4 .ensures) in
-    let target = c .unwrap-or .ensures ∙ ap (λ o. valueOr o 0) (c .second-wire .ensures) in
-    let target-2 = c .unwrap-or-2 .ensures ∙ ap (λ o. valueOr o 0) (c .second-wire-2 .ensures) in
-    more-compared (a .start) (b .start) (c .first-wire .result ∷ a .length ∷ c .kind-place .result ∷ c .unwrap-or .result ∷ a .gate ∷ []) (c .first-wire-2 .result ∷ b .length ∷ c .kind-place-2 .result ∷ c .unwrap-or-2 .result ∷ b .gate ∷ []) (c .cmp-starts .result) _ _ (c .cmp-starts .ensures) firsts (c .then-5 .ensures)
-    ∙ (λ i. compared precedes (a .start ∷ c .first-wire .ensures i ∷ a .length ∷ c .kind-place .ensures i ∷ target i ∷ a .gate ∷ []) (b .start ∷ c .first-wire-2 .ensures i ∷ b .length ∷ c .kind-place-2 .ensures i ∷ target-2 i ∷ b .gate ∷ []))
+    let e = same-compared (a .start) (b .start) (cell-and-later a) (cell-and-later b) (c .cmp .result) (c .compare-cells .result) (c .cmp .ensures) (c .in-Equal .is) (c .compare-cells .ensures) in
+    record { value = e; equal = equal a b (c .compare-cells .result) e }
 
-pub returns : need.returns
-returns c = record { value = is-compared c; equal = decides-at _ _ (ap isEq (is-compared c)) (equal-decides operations-total (c .args .a) (c .args .b)) }
+pub returns-in-rest : need.returns-in-rest
+returns-in-rest c =
+    let a = c .args .a in
+    let b = c .args .b in
+    let e = apart-compared (a .start) (b .start) (cell-and-later a) (cell-and-later b) (c .cmp .result) (c .cmp .ensures) (c .in-rest .not-Equal) in
+    record { value = e; equal = equal a b (c .cmp .result) e }

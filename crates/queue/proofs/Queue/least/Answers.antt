@@ -5,10 +5,8 @@ use Prim.Native.Nat.{_+_, _<_}
 use lib.ListN.{length}
 use Rattle.queue.specs.Held.{Leads}
 use Rattle.queue.proofs.Leaving.{leads-none, leads-more, leads-new, told}
-use Rattle.std.specs.Orderings.{isLt}
-use Rattle.orders.proofs.Compared.{less-is}
 use Rattle.queue.proofs.Queue.least.Needs as need
-use Rattle.queue.proofs.Queue.least.Needs.{then-is-lt, else-is-lt}
+use Rattle.queue.proofs.Queue.least.Needs.{then-comes-before, else-comes-before}
 
 pub loop-k-holds : need.loop-k-holds
 loop-k-holds g c = (omega arith, omega arith, leads-none (g .T·Ranked·met .total) _ 1 (omega arith))
@@ -23,11 +21,10 @@ loop-k-again g c =
     let y = c .index-s-best .result in
     let lt : l .k < length xs = omega arith in
     let blt : l .best < length xs = omega arith in
-    let is = c .is-lt .ensures ∙ ap isLt (g .T·Ranked·met .answers x y (c .cmp .result) (c .cmp .ensures)) ∙ less-is before x y in
-    let t = told o xs (l .k) (l .best) x y (c .is-lt .result) lt blt (search needs) (search needs) is in
-    elim (c .if-is-lt .came) [
-      | then-is-lt w ↦ (omega (arith, w .best-is), omega arith, subst (λ b. Leads before xs b (l .k + 1)) (sym (w .best-is)) (leads-new o xs (l .best) (l .k) (l .k + 1) refl (l .inv .0) (λ d. t d ∙ w .if-is-lt .taken) (l .inv .2)))
-      | else-is-lt w ↦ (omega (arith, w .best-is), omega arith, subst (λ b. Leads before xs b (l .k + 1)) (sym (w .best-is)) (leads-more o xs (l .best) (l .k) (l .k + 1) refl (λ d. t d ∙ w .if-is-lt .left) (l .inv .2)))
+    let t = told o xs (l .k) (l .best) x y (c .comes-before .result) lt blt (search needs) (search needs) (c .comes-before .ensures) in
+    elim (c .if-comes-before .came) [
+      | then-comes-before w ↦ (omega (arith, w .best-is), omega arith, subst (λ b. Leads before xs b (l .k + 1)) (sym (w .best-is)) (leads-new o xs (l .best) (l .k) (l .k + 1) refl (l .inv .0) (λ d. t d ∙ w .if-comes-before .taken) (l .inv .2)))
+      | else-comes-before w ↦ (omega (arith, w .best-is), omega arith, subst (λ b. Leads before xs b (l .k + 1)) (sym (w .best-is)) (leads-more o xs (l .best) (l .k) (l .k + 1) refl (λ d. t d ∙ w .if-comes-before .left) (l .inv .2)))
     ]
 
 pub returns : need.returns

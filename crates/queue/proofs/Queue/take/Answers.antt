@@ -4,7 +4,7 @@ use mathlib.Core.List.{_∷_}
 use Rattle.orders.specs.Sorting.{sorted}
 use Rattle.orders.proofs.Lists.{drop-later}
 use Rattle.queue.proofs.Leaving.{first-leaves}
-use Rattle.queue.proofs.Queue.take_least.Needs as need
+use Rattle.queue.proofs.Queue.take.Needs as need
 
 pub returns : need.returns
 returns g c =
@@ -12,9 +12,8 @@ returns g c =
     let q = c .args .self .now in
     let t = c .close-up .last .self in
     let u = c .close-up .ensures in
-    let b = c .least-at .ensures in
     let x = c .index-self-at .result in
-    let out = first-leaves before (q .places .now) (q .len) (c .least-at .result) x (b .within) (omega arith) (c .index-self-at .is) (b .leads) in
+    let out = first-leaves before (q .places .now) (q .len) (c .args .at) x (c .pre .some) (omega arith) (c .index-self-at .is) (c .pre .least) in
     record {
       leaves = out ∙ (λ j. c .index-self-at .is j ∷ sym (ap (sorted before) (u .front)) j);
       counted = u .counted;
