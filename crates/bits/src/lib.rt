@@ -1,1 +1,2 @@
 // Single bits of numbers. This crate has definitions and proofs only.
+#![tactic(auto)]

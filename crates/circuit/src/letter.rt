@@ -1,5 +1,5 @@
 ghost use Rattle.std.specs.Prelude.{◌≡◌, IfSome, Some};
-ghost use Rattle.circuit.specs.Actions.{letter_of, action_of, first_wire, target_or_zero};
+ghost use Rattle.circuit.specs.Actions.{letter_of, action_of, first_wire, second_wire, target_or_zero};
 
 use crate::action::{Action, Plain, Single};
 
@@ -36,6 +36,26 @@ impl Action {
             Action::One(Single::Plain(Plain::T), _) => 'T',
             Action::Cnot(_, _) => 'C',
             Action::One(Single::Read, _) => 'R',
+        }
+    }
+
+    // The wire, or the control.
+    pub fn first_wire(self) -> u8
+        ensures { result ≡ first_wire self }
+    {
+        match self {
+            Action::One(_, wire) => wire,
+            Action::Cnot(control, _) => control,
+        }
+    }
+
+    // The target, where the action is a CNOT.
+    pub fn second_wire(self) -> Option<u8>
+        ensures { result ≡ second_wire self }
+    {
+        match self {
+            Action::One(_, _) => None,
+            Action::Cnot(_, target) => Some(target),
         }
     }
 }

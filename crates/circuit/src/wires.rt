@@ -1,29 +1,9 @@
 ghost use Rattle.std.specs.Prelude.{◌≡◌};
-ghost use Rattle.circuit.specs.Actions.{first_wire, second_wire, wire_at, names as is_named, share};
+ghost use Rattle.circuit.specs.Actions.{wire_at, names as is_named, share};
 
 use crate::action::Action;
 
 impl Action {
-    // The wire, or the control.
-    pub fn first_wire(self) -> u8
-        ensures { result ≡ first_wire self }
-    {
-        match self {
-            Action::One(_, wire) => wire,
-            Action::Cnot(control, _) => control,
-        }
-    }
-
-    // The target, where the action is a CNOT.
-    pub fn second_wire(self) -> Option<u8>
-        ensures { result ≡ second_wire self }
-    {
-        match self {
-            Action::One(_, _) => None,
-            Action::Cnot(_, target) => Some(target),
-        }
-    }
-
     // The wire at a place: 0 is the wire or the control, 1 the target.
     pub fn wire_at(self, place: usize) -> Option<u8>
         ensures { result ≡ wire_at place self }

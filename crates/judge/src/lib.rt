@@ -1,4 +1,6 @@
 // Judging a plan: whether it breaks a constraint, and if so the first.
+#![tactic(auto)]
+
 pub mod choices;
 pub mod spans_of;
 pub mod timings;

@@ -1,4 +1,6 @@
 // Elements with a total order. Nothing here knows the subject.
+#![tactic(auto)]
+
 ghost use Rattle.std.specs.Prelude.{◌≡◌, Bool};
 ghost use Rattle.std.specs.declared.cmp.Ordering.{Ordering};
 ghost use Rattle.orders.specs.Ranks.{TotalOrder, compared};

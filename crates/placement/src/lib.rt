@@ -1,4 +1,6 @@
 // The homes of labels, and the two constraints on them: a label that is used has one, and no two labels share one.
+#![tactic(auto)]
+
 pub mod home;
 pub mod missing;
 pub mod shared;

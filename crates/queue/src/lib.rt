@@ -1,4 +1,6 @@
 // A priority queue in places that the caller lends, for every element type with a total order.
+#![tactic(auto)]
+
 ghost use Rattle.std.specs.Prelude.{◌≤◌, length};
 
 use orders::Ranked;

@@ -1,4 +1,6 @@
 // What a call is refused for: the one list of refusals, with their numbers and places.
+#![tactic(auto)]
+
 pub mod memory;
 pub mod text;
 

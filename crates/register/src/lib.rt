@@ -1,4 +1,6 @@
 // Gate registers: what they do, by their models, and what they are refused for.
+#![tactic(auto)]
+
 pub mod check;
 pub mod rows;
 

@@ -1,4 +1,6 @@
 // The two route rules that are delivered: one bend, and the bounding rectangle.
+#![tactic(auto)]
+
 mod bend;
 pub mod one_bend;
 pub mod rectangle;

@@ -1,4 +1,6 @@
 // The constraints on a schedule, which is a list of spans: gates that share a label come one after another, gates that reserve a common cell do not overlap, and each ends within the windows of its homes.
+#![tactic(auto)]
+
 pub mod early;
 pub mod late;
 pub mod overlap;

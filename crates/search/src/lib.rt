@@ -1,4 +1,6 @@
 // The first two places at which a test fails: the one search behind all constraints. Nothing here knows the subject.
+#![tactic(auto)]
+
 ghost use Rattle.std.specs.Prelude.{◌≡◌, ℕ, ◌+◌, ◌^◌, ◌<◌, Bool, if◌then◌else◌};
 ghost use Rattle.search.specs.Searches.{tested, first_below, scan, Scanned};
 

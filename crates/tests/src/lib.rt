@@ -1,3 +1,5 @@
 // Examples that are run, layer by layer.
+#![tactic(auto)]
+
 #[cfg(test)]
 mod queues;

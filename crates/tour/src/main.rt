@@ -1,4 +1,6 @@
 // One CNOT travels from its control's home to its target's, each action printed.
+#![tactic(auto)]
+
 use anyhow::anyhow;
 use calibration::table::CalibrationTable;
 use calibration::values::Calibration;

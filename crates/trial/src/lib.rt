@@ -1,4 +1,6 @@
 // What judging would say if one gate had another timing.
+#![tactic(auto)]
+
 ghost use Rattle.std.specs.Prelude.{◌≡◌, ◌<◌, length, Some};
 ghost use Rattle.plan.specs.Plans.{plan_of, retimed_at};
 ghost use Rattle.plan.specs.Verdicts.{judged};
