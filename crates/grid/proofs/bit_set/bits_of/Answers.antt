@@ -13,7 +13,7 @@ pub loop-k-preserved : goal.loop-k-preserved
 loop-k-preserved c =
     let cs = c.args.list.now in
     let i = c.loop-k.k-index in
-    c.with-bit-bits.ensures ∙ ap (with_cell (get_or cs i 0)) c.loop-k.invariant ∙ fun_ext (λ x. sym (any-more (λ d. ltb d 64 && eqb x d) cs i 0 c.loop-k-test.true))
+    c.with_bit-bits.ensures ∙ ap (with_cell (get_or cs i 0)) c.loop-k.invariant ∙ fun_ext (λ x. sym (any-more (λ d. ltb d 64 && eqb x d) cs i 0 c.loop-k-test.true))
 
 pub returns : goal.returns
 returns c = c.loop-k.invariant ∙ ap listed_cells (take_all c.loop-k.k-index c.args.list.now c.loop-k-test.false)
