@@ -14,7 +14,7 @@ returns c =
     let e = c.args.ends in
     let g = grid_of e.machine in
     let fit = machine_fit e.machine in
-    let row_first = c.args.row-first in
+    let row_first = c.args.row_first in
     let path = bent_path row_first g e.from e.to in
     let low = All-from_get_or (λ d. d < 64) path 0 (λ k l. omega (arith, bent_below g fit row_first e.from e.to e.within.0 e.within.1 k l, few-cells g fit)) in
-    c.of-cells.ensures ∙ ap listed_cells (c.cells.ensures.value ∙ c.bent-path-path.ensures) ∙ fun_ext (λ x. listed_all path x low)
+    c.of_cells.ensures ∙ ap listed_cells (c.cells.ensures.value ∙ c.bent_path-path.ensures) ∙ fun_ext (λ x. listed_all path x low)

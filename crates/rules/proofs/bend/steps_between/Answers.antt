@@ -4,8 +4,8 @@ use Rattle.grid.proofs.Fits.{machine_fit}
 use Rattle.rules.specs.BendsLemmas.{few_steps}
 use Rattle.rules.proofs.bend.steps_between.Goals as goal
 
-pub overflow-add-result : goal.overflow-add-result
-overflow-add-result c =
+pub overflow_add-result : goal.overflow_add-result
+overflow_add-result c =
     let f = few_steps (grid_of c.args.ends.machine) (machine_fit c.args.ends.machine) c.args.p c.args.q c.requires.0 c.requires.1 in
     omega (arith, c.distance.ensures, c.distance-2.ensures)
 
