@@ -5,10 +5,11 @@ use Rattle.calibration.specs.Calibrations.{first_values, InRange}
 use Rattle.calibration.proofs.Ranges.{first-in_range}
 use Rattle.calibration.proofs.table.CalibrationTable.new.Goals as goal
 
-pub invariant-of-result : goal.invariant-of-result
-invariant-of-result c =
+pub invariant_of-result : goal.invariant_of-result
+invariant_of-result c =
     let g = grid_of c.args.machine in
-    let e = c.in-ok-cells.ensures in (
-      ap length e ∙ length-map-range_with_len (first_values g) 0 (cells g),
-      (subst (InRange g) (sym e) (first-in_range g), tt),
-    )
+    let e = c.in_ok-cells.ensures in
+    record {
+      whole = ap length e ∙ length-map-range_with_len (first_values g) 0 (cells g);
+      ranged = subst (InRange g) (sym e) (first-in_range g);
+    }

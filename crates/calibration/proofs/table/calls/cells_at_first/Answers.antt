@@ -10,6 +10,6 @@ pub loop-cell-preserved : goal.loop-cell-preserved
 loop-cell-preserved c =
     let f = first_values (grid_of c.args.machine) in
     let k = c.loop-cell.cell in
-    pushed (c.values-at-first.result ∷ []) c.loop-cell.invariant c.in-ok-push.was c.push.ensures.items
-    ∙ ap (λ v. map f (range_with_len 0 k) ++ (v ∷ [])) c.values-at-first.ensures
+    pushed (c.values_at_first.result ∷ []) c.loop-cell.invariant c.in_ok-push.was c.push.ensures.items
+    ∙ ap (λ v. map f (range_with_len 0 k) ++ (v ∷ [])) c.values_at_first.ensures
     ∙ sym (map-range_with_len_more f 0 k k (zero-add k))
