@@ -22,7 +22,7 @@ module _ {X : Type 0} where
 
   -- the same lent places, and those past the first n hold what they held
   pub record Lent (n : ℕ) (was then : Queue X) : Type 0 where
-    pub lender : then.places.name ≡ was.places.name
+    pub lender : then.places.ghost_name ≡ was.places.ghost_name
     pub long : length then.places.now ≡ length was.places.now
     pub rest : drop n then.places.now ≡ drop n was.places.now
 

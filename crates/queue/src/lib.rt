@@ -3,14 +3,12 @@
 
 ghost use Rattle.std.specs.Prelude.{◌≤◌, length};
 
-use orders::Ranked;
-
 mod calls;
 mod steps;
 
 // The first `len` places hold what waits, in the order in which it came.
 #[derive(Drop)]
-pub struct Queue<'a, T: Ranked> {
+pub struct Queue<'a, T> {
     places: &'a mut [T],
     len: usize,
     ghost fits: { len ≤ length places.now },

@@ -8,8 +8,8 @@ pub returns : goal.returns
 returns g c =
     let before = g.T.Ranked.before in
     let q = c.args.self.now in
-    let t = c.close-up.new.self in
-    let u = c.close-up.ensures in
+    let t = c.close_up.new.self in
+    let u = c.close_up.ensures in
     let x = c.index-self-at.result in
     let out = first_leaves before q.places.now q.len c.args.at x c.requires.some (omega arith) c.index-self-at.is c.requires.least in
     record {
