@@ -1,8 +1,10 @@
 -- An operation is known by its key. Assumes nothing.
 use Rattle.std.specs.Prelude.{◌≡◌, ℕ, cond, List, ◌==◌, slice_index, refl}
 use Rattle.std.proofs.Common.{sym, ap, ◌∙◌}
-use Rattle.orders.specs.Ranks.{TotalOrder}
+use Rattle.std.specs.Cmp.{IsTotalOrder}
+use Rattle.orders.specs.Ranks.{TotalOrder, compared}
 use Rattle.orders.proofs.Keys.{key_total}
+use Rattle.orders.proofs.Compared.{compared_total}
 use Rattle.circuit.specs.declared.action.Plain.{Plain}
 use Rattle.circuit.specs.declared.action.Single.{Single}
 use Rattle.circuit.specs.declared.action.Action.{Action}
@@ -37,3 +39,7 @@ operation_known o = λ i. record { start = o.start; length = o.length; action = 
 -- operations are in a total order
 pub operations_total : TotalOrder operation_before
 operations_total = key_total operation_key (λ x y e. sym (operation_known x) ∙ ap operation_at e ∙ operation_known y)
+
+-- and so is what compares them
+pub comparison_total : IsTotalOrder (compared operation_before)
+comparison_total = compared_total operations_total

@@ -1,14 +1,11 @@
 // The order of operations: start, first cell, length, kind, second cell, gate.
 ghost use Rattle.std.specs.Prelude.{◌≡◌, ◌+◌, Some, Decides, refl};
-ghost use Rattle.std.specs.Ordering.{is_eq};
+ghost use Rattle.std.specs.Ordering.{is_eq, eq_by_cmp};
 ghost use Rattle.orders.specs.Ranks.{compared, by_key};
 ghost use Rattle.circuit.specs.Actions.{kind_place};
 ghost use Rattle.circuit.specs.Operations.{later_fields, cell_and_later, operation_before, operation_end};
-ghost use Rattle.std.specs.Cmp.Rules.{comparing};
-ghost use Rattle.std.proofs.Common.{rules};
-ghost use Rattle.std.specs.Cmp as Keys;
-ghost use Rattle.std.specs.Cmp.{partial_order_from_agreeing_total};
-ghost use Rattle.circuit.specs.Known.{operations_total};
+ghost use Rattle.std.specs.Cmp.{partial_equiv_from_equiv, eq_by_cmp_equiv, partial_order_from_agreeing_total};
+ghost use Rattle.circuit.specs.Known.{operations_total, comparison_total};
 
 use crate::action::{Action, Plain, Single};
 use crate::operation::Operation;
@@ -77,23 +74,26 @@ impl Operation {
 }
 
 impl PartialEq for Operation {
-    ghost equals = { λ x y r. Decides r (x ≡ y) };
+    ghost eq = { eq_by_cmp (compared operation_before) };
 
-    ghost laws = { Keys.partial_equiv_from_equiv (Prim.search (comparing, rules)) };
+    ghost laws = { partial_equiv_from_equiv (eq_by_cmp_equiv comparison_total) };
 
-    fn eq(&self, other: &Operation) -> bool {
+    fn eq(&self, other: &Operation) -> bool
+        ensures value { result ≡ eq_by_cmp (compared operation_before) self.now other.now }
+        ensures same { Decides result (self.now ≡ other.now) }
+    {
         compare(*self, *other).is_eq()
     }
 }
 
 impl Eq for Operation {
-    ghost laws = { Prim.search (comparing, rules) };
+    ghost laws = { eq_by_cmp_equiv comparison_total };
 }
 
 impl PartialOrd for Operation {
     ghost partial_cmp = { λ x y. Some (compared operation_before x y) };
 
-    ghost laws = { partial_order_from_agreeing_total (λ x y. compared operation_before x y) (Prim.search (comparing, rules)) (λ _ _. refl) (Prim.search (comparing, rules)) };
+    ghost laws = { partial_order_from_agreeing_total (compared operation_before) comparison_total (λ _ _. refl) (λ _ _. refl) };
 
     fn partial_cmp(&self, other: &Operation) -> Option<Ordering> {
         Some(compare(*self, *other))
@@ -101,13 +101,13 @@ impl PartialOrd for Operation {
 }
 
 impl Ord for Operation {
-    ghost cmp = { λ x y. compared operation_before x y };
+    ghost cmp = { compared operation_before };
 
-    ghost total = { Prim.search (comparing, rules) };
+    ghost total = { comparison_total };
 
-    ghost matches_partial_cmp = { Prim.search (comparing, rules) };
+    ghost matches_partial_cmp = { λ _ _. refl };
 
-    ghost matches_eq = { Prim.search (comparing, rules) };
+    ghost matches_eq = { λ _ _. refl };
 
     fn cmp(&self, other: &Operation) -> Ordering {
         compare(*self, *other)
@@ -119,5 +119,5 @@ impl Ranked for Operation {
 
     ghost total = { operations_total };
 
-    ghost answers = { Prim.search rules };
+    ghost answers = { λ _ _ _ e. e };
 }
