@@ -19,11 +19,11 @@ returns-then-cells-lt2 c =
     let none = nil_from_length (links time cs) (omega arith) in
     record { value = ap time_over (sym none); lasts = ap (λ ls. lasting (routed ls)) (sym none) }
 
-pub overflow-add-sum : goal.overflow-add-sum
-overflow-add-sum c = let d = time-few c.args.table.now c.link-at-sum.result _ _ c.link-at-sum.ensures in let b = c.loop-i.invariant.1 in let f = c.cells-cells.ensures.few in omega arith
+pub overflow_add-sum : goal.overflow_add-sum
+overflow_add-sum c = let d = time-few c.args.table.now c.link_at-sum.result _ _ c.link_at-sum.ensures in let b = c.loop-i.invariant.1 in let f = c.cells-cells.ensures.few in omega arith
 
-pub overflow-add-result : goal.overflow-add-result
-overflow-add-result c = let d = time-few c.args.table.now c.link-at.result _ _ c.link-at.ensures in let b = c.loop-i.invariant.1 in let f = c.cells-cells.ensures.few in omega arith
+pub overflow_add-result : goal.overflow_add-result
+overflow_add-result c = let d = time-few c.args.table.now c.link_at.result _ _ c.link_at.ensures in let b = c.loop-i.invariant.1 in let f = c.cells-cells.ensures.few in omega arith
 
 pub loop-i-preserved : goal.loop-i-preserved
 loop-i-preserved c =
@@ -31,13 +31,13 @@ loop-i-preserved c =
     let cs = c.cells-cells.result.now in
     let i = c.loop-i.i in
     let n = length-links time cs in
-    let l = c.link-at-sum.result in
-    let e : l ≡ get_or (links time cs) i l = c.link-at-sum.ensures ∙ sym (get_or-links time cs i l (omega arith)) in
+    let l = c.link_at-sum.result in
+    let e : l ≡ get_or (links time cs) i l = c.link_at-sum.ensures ∙ sym (get_or-links time cs i l (omega arith)) in
     let f = ap (λ (m : Link). m.time) e in
     let s = sum_by_more (λ (m : Link). m.time) (links time cs) i l (omega arith) in
     let a = c.loop-i.invariant.0 in
     let b = c.loop-i.invariant.1 in
-    let d = time-few c.args.table.now l _ _ c.link-at-sum.ensures in
+    let d = time-few c.args.table.now l _ _ c.link_at-sum.ensures in
     (omega arith, omega arith)
 
 pub returns : goal.returns
@@ -47,8 +47,8 @@ returns c =
     let ls = links time cs in
     let n = length-links time cs in
     let k = length cs - 2 in
-    let l = c.link-at.result in
-    let e : l ≡ get_or ls (length ls - 1) l = c.link-at.ensures ∙ sym (get_or-links time cs k l (omega arith)) ∙ ap (λ m. get_or ls m l) (omega arith) in
+    let l = c.link_at.result in
+    let e : l ≡ get_or ls (length ls - 1) l = c.link_at.ensures ∙ sym (get_or-links time cs k l (omega arith)) ∙ ap (λ m. get_or ls m l) (omega arith) in
     let sum : c.loop-i.sum ≡ sum_by (λ (m : Link). m.time) (front ls) = c.loop-i.invariant.0 ∙ ap (λ m. sum_by (λ (q : Link). q.time) (take m ls)) (omega arith) in
     let is = time_over_is ls l c.loop-i.sum (omega arith) sum e in
     let at : links time cs ≡ links time (path_cells c.args.path.now) = ap (links time) c.cells-cells.ensures.value in

@@ -9,15 +9,15 @@ use Rattle.cnot.proofs.Routed.{length_along, along_is, along_none}
 use Rattle.cnot.proofs.Laying.{laid_first, length-placed}
 use Rattle.cnot.proofs.write.put_along.Goals as goal
 
-pub put-routed-requires : goal.put-routed-requires
-put-routed-requires c =
+pub put_routed-requires : goal.put_routed-requires
+put_routed-requires c =
     let n = along_is (length c.args.cells.now) c.if-cells-ge2.true in
     record { path = (c.if-cells-ge2.true, c.requires.path); room = omega (arith, c.requires.room); fits = c.requires.fits }
 
 pub returns-then-cells-ge2 : goal.returns-then-cells-ge2
 returns-then-cells-ge2 c =
     let from : Cursor = record { at = 0; time = c.args.start } in
-    laid_first c.args.gate (routed (links (times_of c.args.table.now) c.args.cells.now)) c.args.out.now c.put-routed.new.out from c.put-routed.result refl c.put-routed.ensures
+    laid_first c.args.gate (routed (links (times_of c.args.table.now) c.args.cells.now)) c.args.out.now c.put_routed.new.out from c.put_routed.result refl c.put_routed.ensures
 
 pub returns-else-cells-ge2 : goal.returns-else-cells-ge2
 returns-else-cells-ge2 c =

@@ -9,15 +9,15 @@ use Rattle.cnot.specs.Steps.{writing_refusal}
 use Rattle.cnot.proofs.Routed.{length_along}
 use Rattle.cnot.proofs.write.write_cnot.Goals as goal
 
-pub put-along-requires : goal.put-along-requires
-put-along-requires c =
+pub put_along-requires : goal.put_along-requires
+put_along-requires c =
     let start = c.args.start in
     let places = length c.args.out.now in
-    let count = c.operation-count-count.result in
+    let count = c.operation_count-count.result in
     let time = times_of c.args.table.now in
-    let a = accepted (writing_refusal start c.args.gate places count) tt _ (sym c.in-ok-check.was ∙ c.check.ensures) in
+    let a = accepted (writing_refusal start c.args.gate places count) tt _ (sym c.in_ok-check.was ∙ c.check.ensures) in
     let p = neither (refuse_if (ltb 1000000 start) (Refusal.StartTooLarge c.args.gate)) (refuse_if (ltb places count) Refusal.TooFewPlaces) a in
-    let n = c.operation-count-count.ensures time ∙ sym (length_along time (path_cells c.args.path.now)) ∙ sym (ap (λ cs. operations_along (length cs)) c.cells.ensures.value) in
+    let n = c.operation_count-count.ensures time ∙ sym (length_along time (path_cells c.args.path.now)) ∙ sym (ap (λ cs. operations_along (length cs)) c.cells.ensures.value) in
     record {
       path = c.cells.ensures.few;
       fits = ltb-false 1000000 start (passed (ltb 1000000 start) (Refusal.StartTooLarge c.args.gate) p.0);
