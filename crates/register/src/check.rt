@@ -49,7 +49,7 @@ pub fn is_past(done: u32, most: u32, more: usize) -> bool
 
 // Why the register does not take an action, or that it does.
 pub fn check_action<G: GateRegister>(register: &G, action: Action) -> Result<(), Refusal>
-    ensures { result ≡ ok_unless (applying_refusal (capacity G.GateRegister.model G.GateRegister.most (state register.now) (done register.now) None) action) tt }
+    ensures { result ≡ ok_unless (applying_refusal (capacity G.GateRegister.model G.GateRegister.most (G.GateRegister.state register.now) (G.GateRegister.done register.now) None) action) tt }
 {
     if is_off_wires(register.wires(), action) {
         return Err(Refusal::NotOnWires(0));
