@@ -1,10 +1,8 @@
 ghost use Rattle.plan.specs.Entries.{entry_before};
 ghost use Rattle.plan.specs.EntriesLemmas.{entries_total};
 ghost use Rattle.std.specs.Prelude.{[], ◌∷◌};
-ghost use Rattle.std.specs.Cmp.{nat_cmp_total, ranks};
-ghost use Rattle.std.specs.Cmp.Derive.{on, fields};
+ghost use Rattle.std.specs.Cmp.{ranks};
 ghost use Rattle.orders.proofs.Keys.{last-compared, more-compared};
-ghost use Rattle.plan.specs.declared.gate.AgendaEntry.{AgendaEntry};
 ghost use Rattle.std.specs.Ordering.{nat_cmp};
 
 use crate::gate::{AgendaEntry, *};
@@ -18,5 +16,5 @@ impl Ranked for AgendaEntry {
     ghost answers = { λ x y r h.
         more-compared x.start y.start (x.gate ∷ []) (y.gate ∷ []) (nat_cmp x.start y.start) (nat_cmp x.gate y.gate) r (ranks x.start y.start)
         (last-compared x.gate y.gate (nat_cmp x.gate y.gate) (ranks x.gate y.gate))
-        ((on (λ (e : AgendaEntry). (e.start, e.gate)) (fields nat_cmp_total nat_cmp_total)).says x y r h) };
+        h };
 }

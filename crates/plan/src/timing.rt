@@ -1,7 +1,7 @@
 ghost use Rattle.std.specs.Prelude.{◌≡◌, Some};
 ghost use Rattle.plan.specs.Plans.{start_or, choice_or, retimed};
-use crate::gate::Gate;
-use crate::gate::Timing;
+
+use crate::gate::{Gate, Timing};
 
 impl Gate {
     // When the gate starts, 0 where it has no timing.
@@ -22,7 +22,6 @@ impl Gate {
             Some(timing) => timing.choice,
             None => 0,
         }
-    }
     }
 
     // Gives the gate another start and choice.
