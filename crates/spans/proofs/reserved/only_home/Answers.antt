@@ -9,5 +9,5 @@ only-requires c =
     let fit = machine_fit c.args.machine in
     let few = few-cells (grid_of c.args.machine) fit in
     let below = home_below (grid_of c.args.machine) c.args.homes.now c.args.label fit in
-    let is = c.cell-of.ensures in
+    let is = c.cell_of.ensures in
     omega arith
