@@ -9,5 +9,5 @@ pub returns : goal.returns
 returns g c =
     let p = plan_of c.args.table.now c.args.homes.now c.args.gates.now in
     let R = g.R.RouteRule.route c.args.rule.now in
-    let same = c.verdict-on.ensures ∙ parts_same p R in
+    let same = c.verdict_on.ensures ∙ parts_same p R in
     record { answer = same; fair = λ h. subst (Fair p R) (sym (same ∙ judged-few p R h)) (fair p R) }

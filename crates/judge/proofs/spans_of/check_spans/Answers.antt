@@ -15,10 +15,10 @@ returns g c =
     let p = plan_of t c.args.homes.now c.args.gates.now in
     let R = g.R.RouteRule.route c.args.rule.now in
     let n = length c.args.gates.now in
-    let all = c.write-spans.new.out in
+    let all = c.write_spans.new.out in
     let ss : List Span = take (n - 0) all in
     let fewer : n - 0 ≤ length all = omega arith in
     let long : length ss ≡ n = length-take-le (n - 0) all fewer ∙ sub-zero n in
-    let sp : SpansOf p R n ss = λ i h. subst (SpanOf p R i) (sym (get_or-take (n - 0) all i no_span (omega arith))) (c.write-spans.ensures i h) in
-    c.check-schedule.ensures
+    let sp : SpansOf p R n ss = λ i h. subst (SpanOf p R i) (sym (get_or-take (n - 0) all i no_span (omega arith))) (c.write_spans.ensures i h) in
+    c.check_schedule.ensures
     ∙ ap₂ ok_unless (broken-same p R ss long sp (machine_fit t.machine) (g.met.R.RouteRule.lawful c.args.rule.now) c.requires.offered) (latest-same p R ss long sp)

@@ -9,8 +9,8 @@ pub loop-i-preserved : goal.loop-i-preserved
 loop-i-preserved g c =
     let ss = c.loop-i.out in
     let i = c.loop-i.i in
-    let s = c.span-of.result in
-    let e = c.span-of.ensures in
+    let s = c.span_of.result in
+    let e = c.span_of.ensures in
     let S : ℕ → Span → Type 0 = SpanOf (plan_of c.args.table.now c.args.homes.now c.args.gates.now) (g.R.RouteRule.route c.args.rule.now) in
     let room : i < length ss = omega arith in
     let own : S i s = record { action = e.acts; start = e.starts; end = e.ends; cells = e.reserves } in (
