@@ -1,5 +1,5 @@
 -- The laws of single bits. Assumes nothing.
-use Rattle.std.proofs.Common.{◌≡◌, ℕ, zero, suc, ◌+◌, ◌-◌, ◌*◌, ◌/◌, ◌%◌, ◌^◌, ◌<◌, ◌≤◌, Bool, true, false, not, ◌&&◌, ◌||◌, eqb, ◌≢◌, ◌⊎◌, Decides, sym, refl, ap, ◌∙◌, subst, ap₂, inl, inr, mod-lt, pow-suc, div-add-mod', div-one, arith, pow_pos, pow_mono, pow-add, shr-shr, shr_lt}
+use Rattle.std.proofs.Common.{◌≡◌, ℕ, zero, suc, ◌+◌, ◌-◌, ◌*◌, ◌/◌, ◌%◌, ◌^◌, ◌<◌, ◌≤◌, true, false, not, ◌&&◌, ◌||◌, eqb, ◌≢◌, ◌⊎◌, Decides, sym, refl, ap, ◌∙◌, inl, inr, mod-lt, pow-suc, div-add-mod', div-one, arith, pow_pos, pow_mono, pow-add, shr-shr}
 use native.Mathlib.Nat.{div-eq_of_lt, pow-zero, mul-mod_left}
 use lib.Bits.{bit_and, bit_or, and_le_l, and_shr, and_mod, or_shr, or_mod}
 use lib.Pow.{shl-shr}

@@ -1,18 +1,18 @@
 -- What every history keeps. Assumes nothing.
-use Rattle.std.proofs.Common.{◌≡◌, ℕ, zero, suc, ◌*◌, ◌<◌, ◌≤◌, Bool, true, false, not, ◌&&◌, eqb, ltb, leb, List, [], ◌∷◌, ◌++◌, map, length, get_or, set, replicate, Some, None, Option, sym, refl, ap, ◌∙◌, subst, arith, length-append, length-set, get_or-set_other, get_or-set_same}
+use Rattle.std.proofs.Common.{◌≡◌, ℕ, zero, suc, ◌*◌, ◌<◌, ◌≤◌, Bool, true, false, not, ◌&&◌, eqb, ltb, leb, List, [], ◌∷◌, ◌++◌, length, get_or, set, replicate, Some, None, Option, sym, refl, ap, ◌∙◌, subst, arith, length-append, length-set, get_or-set_other, get_or-set_same}
 use native.Mathlib.Decide.{ℕ_discrete}
 use lib.ListN.{length-replicate, length-map}
 use Rattle.std.specs.List.{AllByRecursion as All}
 use Rattle.std.proofs.lemmas.List.FromFn.{length-map-range_with_len}
 use Rattle.std.proofs.ByRecursion.{All-push, All-weaker, All-get_or, All-from_get_or}
 use Rattle.std.proofs.lemmas.Bool.{leb-true, leb-false, ltb-false, eqb-false, eq-eqb, and_parts, and_from, both_ways, or_parts, not-false}
-use Rattle.orders.specs.Lists.{Pairs, In}
+use Rattle.orders.specs.Lists.{Pairs}
 use Rattle.orders.proofs.Lists.{pairs_append}
 use Rattle.orders.proofs.Pairs.{all_in}
 use Rattle.circuit.specs.declared.action.Action.{Action}
 use Rattle.circuit.specs.Actions.{action_of, wires, first_wire, is_read, Distinct, is_twice}
 use Rattle.refusal.specs.declared.Refusal.{Refusal}
-use Rattle.refusal.specs.Refusals.{refuse_if, or_else}
+use Rattle.refusal.specs.Refusals.{refuse_if}
 use Rattle.refusal.proofs.Accepted.{passed, neither}
 use Rattle.grid.specs.Grids.{grid, between, cells}
 use Rattle.calibration.specs.declared.values.Calibration.{Calibration}

@@ -1,5 +1,5 @@
 -- Other timings keep what a plan keeps. Assumes nothing.
-use Rattle.std.proofs.Common.{◌≡◌, ℕ, zero, suc, ◌<◌, ◌≤◌, true, List, [], ◌∷◌, map, length, get_or, set, Some, None, Option, sym, refl, ap, subst, arith}
+use Rattle.std.proofs.Common.{◌≡◌, ℕ, zero, suc, ◌<◌, ◌≤◌, true, List, [], ◌∷◌, map, length, get_or, set, None, Option, sym, refl, ap, subst, arith}
 use Rattle.std.specs.List.{AllByRecursion as All}
 use Rattle.orders.specs.Lists.{Pairs, In}
 use Rattle.circuit.specs.declared.action.Action.{Action}

@@ -1,10 +1,9 @@
 -- The book of a job: its plan as the accepted calls have written it, and whether its program is closed. Assumes nothing.
-use Rattle.std.specs.Prelude.{ℕ, Bool, true, false, List, [], ◌∷◌, ◌++◌, map, set, replicate, Some, None, Option}
+use Rattle.std.specs.Prelude.{ℕ, Bool, false, List, [], ◌∷◌, ◌++◌, map, replicate, Some, None, Option}
 use Rattle.circuit.specs.declared.action.Action.{Action}
 use Rattle.calibration.specs.declared.values.Calibration.{Calibration}
 use Rattle.grid.specs.Grids.{grid}
 use Rattle.calibration.specs.Calibrations.{first_calibration}
-use Rattle.plan.specs.declared.gate.Timing.{Timing}
 use Rattle.plan.specs.declared.gate.Gate.{Gate}
 use Rattle.plan.specs.Plans.{Plan, retimed, retimed_at}
 

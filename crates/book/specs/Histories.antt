@@ -8,7 +8,7 @@ use Rattle.route.specs.Routes.{Route}
 use Rattle.plan.specs.Plans.{Plan}
 use Rattle.plan.specs.Kept.{Kept}
 use Rattle.plan.specs.Listings.{listing}
-use Rattle.book.specs.Books.{Book, opening, with_gates, with_calibration, with_homes, added, timed, timings_dropped}
+use Rattle.book.specs.Books.{Book, opening, with_calibration, with_homes, added, timed, timings_dropped}
 use Rattle.book.specs.Calls.{Call, add, close, calibrate, place, time, try, judge, agenda, list, run, reopen, Callable}
 use Rattle.book.specs.Refusals.{opening_refusal, refusal}
 

@@ -6,10 +6,8 @@ use Rattle.refusal.specs.declared.Refusal.{Refusal}
 use Rattle.circuit.specs.Actions.{action_of}
 use Rattle.circuit.specs.Actions.{wires, first_wire, is_read, is_twice}
 use Rattle.refusal.specs.Refusals.{refuse_if, or_else}
-use Rattle.calibration.specs.declared.values.Calibration.{Calibration}
 use Rattle.grid.specs.Grids.{between, cells}
 use Rattle.calibration.specs.Calibrations.{calibrating_refusal}
-use Rattle.route.specs.Routes.{Route}
 use Rattle.plan.specs.declared.gate.Gate.{Gate}
 use Rattle.plan.specs.Plans.{Plan, labels, gate_count}
 use Rattle.plan.specs.Blocks.{direct}

@@ -1,7 +1,7 @@
 -- The times of links: at most 1000, and more than 0 between neighbours. Assumes nothing.
-use Rattle.std.proofs.Common.{◌≡◌, ℕ, ◌+◌, ◌*◌, ◌/◌, ◌%◌, ◌<◌, ◌≤◌, min, Bool, true, false, cond, ◌&&◌, eqb, ltb, leb, ◌⊎◌, List, sym, refl, ap, ◌∙◌, subst, inl, inr, mod-lt, div-lt_iff_lt-mul, arith}
-use Rattle.std.proofs.lemmas.Bool.{leb-true, eqb-true, lt-ltb, and_parts, cond_both, cases_Bool, cond-true, cond-false, eq-eqb, ne_eqb, false≢true, ltb-true}
-use Rattle.grid.specs.Grids.{Grid, GridFit, between, cells, column, row, place, NextTo, Beside, Neighbours, beside, are_neighbours}
+use Rattle.std.proofs.Common.{◌≡◌, ℕ, ◌+◌, ◌<◌, ◌≤◌, min, Bool, true, false, cond, eqb, ltb, leb, List, sym, ◌∙◌, subst, inl, inr, mod-lt, div-lt_iff_lt-mul, arith}
+use Rattle.std.proofs.lemmas.Bool.{leb-true, eqb-true, lt-ltb, and_parts, cond_both, cond-true, cond-false, eq-eqb, ne_eqb, false≢true, ltb-true}
+use Rattle.grid.specs.Grids.{Grid, GridFit, between, cells, column, row, Neighbours, are_neighbours}
 use Rattle.grid.proofs.Neighbours.{neighbours_test, row_before, column-before}
 use Rattle.calibration.specs.declared.values.Calibration.{Calibration}
 use Rattle.calibration.specs.Calibrations.{has_east, has_south, link_ok, calibration_ok, values_at, InRange, link_time}

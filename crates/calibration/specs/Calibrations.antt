@@ -1,5 +1,5 @@
 -- The calibration of cells: ranges, the values at first, and the times of links. Assumes nothing.
-use Rattle.std.specs.Prelude.{◌≡◌, ℕ, ◌+◌, ◌<◌, ◌≤◌, min, Bool, true, cond, not, ◌&&◌, List, map, Option, ◌==◌, nat_le, nat_lt, slice_index_or}
+use Rattle.std.specs.Prelude.{◌≡◌, ℕ, ◌+◌, ◌<◌, min, Bool, true, cond, not, ◌&&◌, List, map, Option, ◌==◌, nat_le, nat_lt, slice_index_or}
 use Rattle.std.specs.List.{range_with_len}
 use Rattle.refusal.specs.declared.Refusal.{Refusal}
 use Rattle.refusal.specs.Refusals.{refuse_if, or_else}

@@ -1,5 +1,5 @@
 -- What a calibration table holds. Assumes nothing.
-use Rattle.std.specs.Prelude.{◌≡◌, List, vec_items}
+use Rattle.std.specs.Prelude.{List, vec_items}
 use Rattle.grid.specs.Grids.{Grid, grid_of}
 use Rattle.calibration.specs.declared.values.Calibration.{Calibration}
 use Rattle.calibration.specs.declared.table.CalibrationTable.{CalibrationTable}

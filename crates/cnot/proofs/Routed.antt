@@ -1,13 +1,13 @@
 -- How many steps a routed CNOT has, and how long they last. Assumes nothing.
-use Rattle.std.proofs.Common.{◌≡◌, ℕ, suc, ◌+◌, ◌-◌, ◌*◌, ◌<◌, ◌≤◌, cond, ◌⊎◌, List, [], ◌∷◌, ◌++◌, map, reverse, length, get_or, take, drop, sum_by, sum, sym, refl, ap, ◌∙◌, ap₂, inl, inr, arith}
+use Rattle.std.proofs.Common.{◌≡◌, ℕ, ◌+◌, ◌-◌, ◌*◌, ◌<◌, ◌≤◌, cond, List, [], ◌∷◌, ◌++◌, map, reverse, length, get_or, take, drop, sum_by, sum, sym, refl, ap, ◌∙◌, inl, inr, arith}
 use mathlib.Core.List.{reverse-cons}
 use Rattle.std.proofs.lemmas.Bool.{cases_lt, lt-ltb, le-ltb}
 use Rattle.std.specs.List.{flat_map}
 use Rattle.std.proofs.lemmas.List.{length-append, length-reverse, length-map, length-take-le, length-drop, nil_from_length, take-map, drop-map}
 use Rattle.std.proofs.lemmas.List.Sums.{sum_by-cons, sum_by-append, sum_by_push, sum-map}
 use Rattle.cnot.specs.declared.link.Link.{Link}
-use Rattle.cnot.specs.Links.{front, final, links, operations_along, route_time, time_over}
-use Rattle.cnot.specs.Steps.{Step, lasting, cnot_over, swap_over, routed}
+use Rattle.cnot.specs.Links.{front, final, links, operations_along, time_over}
+use Rattle.cnot.specs.Steps.{lasting, cnot_over, swap_over, routed}
 use Rattle.cnot.proofs.Links.{length-links}
 use Rattle.cnot.proofs.Ways.{final_is}
 

@@ -1,10 +1,10 @@
 -- The links of the way there and of the way back. Assumes nothing.
-use Rattle.std.proofs.Common.{◌≡◌, ℕ, ◌+◌, ◌-◌, ◌<◌, ◌≤◌, Bool, true, false, cond, List, [], ◌∷◌, ◌++◌, reverse, length, get_or, take, drop, sym, refl, ap, ◌∙◌, arith}
+use Rattle.std.proofs.Common.{◌≡◌, ℕ, ◌+◌, ◌-◌, ◌<◌, Bool, true, false, cond, List, [], ◌∷◌, ◌++◌, length, get_or, take, sym, ap, ◌∙◌, arith}
 use Rattle.std.specs.List.{flat_map}
 use Rattle.std.proofs.lemmas.List.{get_or-reverse, get_or-take, length-take-le, length-reverse, take_more, flat_map_more, drop_more, drop_all}
 use Rattle.cnot.specs.declared.link.Link.{Link}
 use Rattle.cnot.specs.Links.{front, final, link, links}
-use Rattle.cnot.specs.Steps.{Step, swap_over, turned_if}
+use Rattle.cnot.specs.Steps.{swap_over, turned_if}
 use Rattle.cnot.proofs.Links.{length-links, get_or-links}
 
 length_front : {X : Type 0} (xs : List X) → length (front xs) ≡ length xs - 1

@@ -1,5 +1,5 @@
 -- Sets of cells below 64. Assumes nothing.
-use Rattle.std.specs.Prelude.{◌≡◌, ℕ, Bool, true, false, ◌&&◌, ◌||◌, List, [], ◌∷◌, ◌==◌, nat_lt}
+use Rattle.std.specs.Prelude.{◌≡◌, ℕ, Bool, true, false, ◌&&◌, ◌||◌, List, ◌==◌, nat_lt}
 use Rattle.orders.specs.Lists.{any}
 
 -- no cell is in it

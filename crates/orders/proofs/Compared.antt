@@ -2,7 +2,7 @@
 use Rattle.std.proofs.Common.{◌≡◌, Bool, true, false, cond, Decides, Less, Equal, Greater, sym, refl, ap, ◌∙◌, subst, ap₂}
 use Rattle.std.specs.Ordering.{is_eq, is_lt, ordering_reverse}
 use Rattle.std.specs.Cmp.{IsTotalOrder}
-use Rattle.std.proofs.lemmas.Bool.{both_ways, true≢false, false≢true}
+use Rattle.std.proofs.lemmas.Bool.{false≢true}
 use Rattle.orders.specs.Ranks.{TotalOrder, compared}
 
 module _ {X : Type 0} {before : X → X → Bool} (o : TotalOrder before) where

@@ -1,5 +1,5 @@
 -- What an action reserves under an offered choice are cells of the grid. Assumes nothing.
-use Rattle.std.proofs.Common.{◌≡◌, ℕ, ◌<◌, Bool, true, false, cond, not, ◌&&◌, eqb, ltb, Some, None, sym, refl, subst, inl, inr}
+use Rattle.std.proofs.Common.{◌≡◌, ℕ, ◌<◌, Bool, true, false, cond, not, ◌&&◌, eqb, ltb, Some, None, sym, refl, subst}
 use Rattle.std.proofs.lemmas.Bool.{and_parts, ltb-true, eqb-true, eqb-false, not-true, false≢true}
 use Rattle.circuit.specs.declared.action.Action.{Action}
 use Rattle.grid.specs.Grids.{Grid, GridFit, cells}

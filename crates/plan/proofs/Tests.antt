@@ -1,13 +1,12 @@
 -- Each constraint is broken exactly where its test fails. Assumes nothing.
-use Rattle.std.proofs.Common.{◌≡◌, ℕ, zero, suc, ◌+◌, ◌<◌, ◌≤◌, max, Bool, true, false, not, ◌&&◌, ◌||◌, eqb, ltb, ◌⊎◌, List, [], ◌∷◌, length, Some, None, Option, sym, refl, ap, ◌∙◌, subst, ap₂, inl, inr, arith}
+use Rattle.std.proofs.Common.{◌≡◌, ℕ, zero, suc, ◌<◌, true, ◌&&◌, ◌||◌, eqb, ltb, List, [], ◌∷◌, Some, None, Option, sym, refl, ap, ◌∙◌, subst, ap₂, inl, inr, arith}
 use Rattle.std.proofs.lemmas.Bool.{and_parts, and_from, lt-ltb, ltb-true, eq-eqb, eqb-true, both_ways, cases_Bool, or_cases, not-true, not_from_false, false≢true}
 use Rattle.orders.specs.Lists.{In, Common, any}
 use Rattle.orders.proofs.Lists.{any-has, any-from}
-use Rattle.search.specs.Searches.{some_below, highest}
 use Rattle.search.proofs.Searches.{some_below-has, some_below-from, highest-bound}
 use Rattle.refusal.specs.declared.Refusal.{Refusal}
 use Rattle.circuit.specs.declared.action.Action.{Action}
-use Rattle.circuit.specs.Actions.{names, share, wires, wire_at}
+use Rattle.circuit.specs.Actions.{names, wires, wire_at}
 use Rattle.grid.specs.Grids.{cells}
 use Rattle.route.specs.Routes.{Route}
 use Rattle.plan.specs.Plans.{Plan, no_gate, is_none, gate_count, action_at, timing_at, labels_at, start_at, choice_at, home_at, window}

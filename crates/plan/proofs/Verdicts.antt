@@ -1,8 +1,8 @@
 -- A plan passes exactly when it breaks no constraint; else the first broken one is named. Assumes nothing.
-use Rattle.std.proofs.Common.{◌≡◌, ℕ, suc, ◌+◌, ◌<◌, ◌≤◌, Bool, true, false, cond, eqb, ◌⊎◌, List, [], ◌∷◌, is_ok, Some, None, Ok, Err, Option, Result, sym, refl, ap, ◌∙◌, subst, inl, inr, arith}
+use Rattle.std.proofs.Common.{◌≡◌, ℕ, ◌+◌, ◌<◌, ◌≤◌, true, cond, eqb, ◌⊎◌, List, [], ◌∷◌, is_ok, Some, None, Ok, Err, Option, sym, refl, ap, ◌∙◌, subst, inl, inr, arith}
 use Rattle.std.specs.Option.{option_map}
 use Rattle.std.proofs.lemmas.Bool.{both_ways, cases_order}
-use Rattle.search.specs.Searches.{highest, scan, Earlier, Scanned}
+use Rattle.search.specs.Searches.{scan, Earlier, Scanned}
 use Rattle.search.proofs.Searches.{scanned, highest-bound, highest-met}
 use Rattle.refusal.specs.declared.Refusal.{Refusal}
 use Rattle.refusal.specs.Refusals.{shown, number, or_else, ok_unless}
@@ -10,7 +10,7 @@ use Rattle.route.specs.Routes.{Route}
 use Rattle.plan.specs.Plans.{Plan, gate_count}
 use Rattle.plan.specs.Durations.{end_at}
 use Rattle.plan.specs.Constraints.{Broken, BreaksNone, test_place, Before}
-use Rattle.plan.specs.Verdicts.{Constraint, no_home, one_home, no_timing, no_choice, too_early, overlap, too_late, fails, firsts, seconds, naming, first_of, first_broken, latest_end, verdict, Latest, NamesFirst, Fair}
+use Rattle.plan.specs.Verdicts.{Constraint, no_home, one_home, no_timing, no_choice, too_early, overlap, too_late, fails, firsts, seconds, naming, first_of, first_broken, latest_end, verdict, NamesFirst, Fair}
 use Rattle.plan.proofs.Tests.{At, sound, whole}
 use Rattle.plan.proofs.Places.{order, naming-broken, naming-number, naming-first, naming-place, Located, located}
 

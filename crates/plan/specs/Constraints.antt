@@ -1,5 +1,5 @@
 -- The constraints on a plan, each by the refusal that names it. Assumes nothing.
-use Rattle.std.specs.Prelude.{◌≡◌, ℕ, ◌<◌, Bool, true, cond, ◌⊎◌, Some, None, ◌==◌}
+use Rattle.std.specs.Prelude.{◌≡◌, ℕ, ◌<◌, true, cond, ◌⊎◌, Some, None, ◌==◌}
 use Rattle.orders.specs.Lists.{In, Common}
 use Rattle.search.specs.Searches.{Earlier}
 use Rattle.refusal.specs.declared.Refusal.{Refusal}

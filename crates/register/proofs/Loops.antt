@@ -1,12 +1,11 @@
 -- One operation more of a list. Assumes nothing.
-use Rattle.std.proofs.Common.{◌≡◌, ℕ, zero, suc, ◌+◌, ◌<◌, ◌≤◌, Bool, true, false, cond, List, [], ◌∷◌, ◌++◌, length, get_or, take, drop, Some, None, Option, sym, refl, ap, ◌∙◌, subst, ap₂, add-one, arith, take-append-drop, drop-cons}
+use Rattle.std.proofs.Common.{◌≡◌, ℕ, zero, suc, ◌+◌, ◌<◌, ◌≤◌, Bool, true, false, cond, List, [], ◌∷◌, ◌++◌, length, get_or, take, drop, Some, None, sym, refl, ap, ◌∙◌, add-one, arith, take-append-drop, drop-cons}
 use Rattle.std.proofs.lemmas.List.{take_more}
-use Rattle.std.proofs.lemmas.Bool.{cond-true, cond-false}
 use Rattle.circuit.specs.declared.operation.Operation.{Operation}
 use Rattle.refusal.specs.declared.Refusal.{Refusal}
 use Rattle.circuit.specs.Actions.{is_h, is_read}
 use Rattle.circuit.specs.Operations.{one_if, h_count, read_count}
-use Rattle.register.specs.Runs.{at_first, no_operation}
+use Rattle.register.specs.Runs.{at_first}
 
 -- the search from position i on
 pub at_first-next : {X : Type 0} (names : ℕ → Refusal) (test : X → Bool) (xs : List X) (i : ℕ) (d : X) → i < length xs

@@ -1,14 +1,13 @@
 -- The numbers that are told are themselves a lawful model, which takes every kind. Assumes nothing.
-use Rattle.std.proofs.Common.{◌≡◌, ℕ, ◌+◌, ◌<◌, Bool, true, false, cond, not, eqb, ◌≢◌, ◌⊎◌, List, [], ◌∷◌, sym, refl, ap, ◌∙◌, subst, ap₂, inl, inr, arith, eq-eqb, ne_eqb}
+use Rattle.std.proofs.Common.{◌≡◌, ℕ, Bool, true, false, cond, eqb, ◌≢◌, sym, refl, ap, ◌∙◌, ap₂, inl, inr, eq-eqb, ne_eqb}
 use mathlib.Core.Path.{fun_ext}
 use native.Mathlib.Decide.{ℕ_discrete}
 use lib.Bits.{bit_xor, xor_comm, xor_assoc, xor_self}
 use Rattle.orders.specs.Lists.{In, Common}
-use Rattle.circuit.specs.declared.action.Single.{Single}
 use Rattle.circuit.specs.declared.action.Action.{Action}
 use Rattle.register.specs.Rows.{flips}
 use Rattle.circuit.specs.Actions.{wires, carry, exchanged}
-use Rattle.register.specs.Models.{Fit, swapped, Model}
+use Rattle.register.specs.Models.{swapped, Model}
 use Rattle.register.specs.Numbers.{write, marked, renumbered}
 
 abbrev State : Type 0

@@ -1,16 +1,15 @@
 -- A register refuses a list of operations exactly when it does not take it, for the first test that fails. Assumes nothing.
-use Rattle.std.proofs.Common.{◌≡◌, ℕ, zero, suc, ◌+◌, ◌<◌, ◌≤◌, Bool, true, false, cond, not, ◌&&◌, ◌||◌, eqb, ltb, leb, ◌≢◌, ◌⊎◌, List, [], ◌∷◌, length, get_or, Some, None, Option, sym, refl, ap, ◌∙◌, subst, ap₂, inl, inr, zero-add, arith}
+use Rattle.std.proofs.Common.{◌≡◌, ℕ, zero, suc, ◌+◌, ◌<◌, Bool, true, false, cond, not, ltb, leb, List, [], ◌∷◌, length, get_or, Some, None, Option, sym, refl, ap, ◌∙◌, subst, inl, inr, zero-add, arith}
 use Rattle.std.specs.List.{AllByRecursion as All}
-use Rattle.std.proofs.ByRecursion.{All-weaker, All-get_or, All-from_get_or}
-use Rattle.std.proofs.lemmas.Bool.{leb-false, lt-leb, ltb-true, ltb-false, le-ltb, eqb-false, ne_eqb, or_parts, or_from, both_ways, cases_Bool, cases_lt, not-true, not-false, not_from_true, cond-true, cond-false, cond_both, true≢false, false≢true}
-use Rattle.orders.proofs.Pairs.{all_both}
+use Rattle.std.proofs.ByRecursion.{All-get_or, All-from_get_or}
+use Rattle.std.proofs.lemmas.Bool.{leb-false, lt-leb, ltb-true, ltb-false, eqb-false, ne_eqb, or_parts, or_from, both_ways, cases_Bool, cases_lt, not-true, not-false, cond_both}
 use Rattle.orders.specs.Lists.{any}
 use Rattle.circuit.specs.declared.action.Action.{Action}
 use Rattle.circuit.specs.declared.operation.Operation.{Operation}
 use Rattle.refusal.specs.declared.Refusal.{Refusal}
 use Rattle.circuit.specs.Actions.{wires, Distinct, is_twice}
 use Rattle.circuit.specs.Operations.{h_count, read_count}
-use Rattle.refusal.specs.Refusals.{shown, number, or_else}
+use Rattle.refusal.specs.Refusals.{or_else}
 use Rattle.register.specs.Models.{is_taken, OnWires, Fit}
 use Rattle.register.specs.Runs.{Capacity, is_off_wires, at_first, too_few, running_refusal, Taken, no_operation, operation_at, Failed, test_order, Sooner, FirstFailed, RunningFair}
 

@@ -1,5 +1,5 @@
 -- A path that has room goes on. Assumes nothing.
-use Rattle.std.proofs.Common.{◌≡◌, ℕ, ◌<◌, cond, leb, List, [], ◌∷◌, ◌++◌, length, is_ok, Result, sym, ap, ◌∙◌}
+use Rattle.std.proofs.Common.{◌≡◌, ℕ, ◌<◌, cond, leb, List, [], ◌∷◌, ◌++◌, length, is_ok, Result, ap, ◌∙◌}
 use Rattle.std.proofs.lemmas.Bool.{lt-leb}
 use Rattle.refusal.specs.declared.Refusal.{Refusal}
 use Rattle.refusal.specs.Refusals.{refuse_if, ok_unless}

@@ -1,5 +1,5 @@
 -- The two ends of a route. Assumes nothing.
-use Rattle.std.specs.Prelude.{ℕ, Bool, cond, not, ◌&&◌, Some, None, Option, ◌==◌, nat_lt}
+use Rattle.std.specs.Prelude.{ℕ, cond, not, ◌&&◌, Some, None, Option, ◌==◌, nat_lt}
 use Rattle.grid.specs.Grids.{Grid, grid_of, cells}
 use Rattle.route.specs.declared.endpoints.Endpoints.{Endpoints}
 

@@ -1,9 +1,9 @@
 -- A bent path is lawful by its places. Assumes nothing.
-use Rattle.std.specs.Prelude.{◌≡◌, ℕ, ◌+◌, ◌-◌, ◌*◌, ◌/◌, ◌%◌, ◌<◌, ◌≤◌, Bool, List, length, ◌≢◌, slice_index, refl}
-use Rattle.std.proofs.Common.{sym, ap, ap₂, subst, subst₂, ◌∙◌, arith, mod-lt, div-lt_iff_lt-mul, div-add-mod', mul_comm, zero-add}
+use Rattle.std.specs.Prelude.{◌≡◌, ℕ, ◌+◌, ◌<◌, ◌≤◌, Bool, length, ◌≢◌, slice_index}
+use Rattle.std.proofs.Common.{sym, ap, subst, subst₂, ◌∙◌, arith, mod-lt, div-lt_iff_lt-mul, div-add-mod', mul_comm, zero-add}
 use Rattle.std.proofs.lemmas.Nat.{mul-add-lt, div-mul-add, mod-mul-add}
 use Rattle.std.proofs.lemmas.List.FromFn.{length-map-range_with_len, get_or-map-range_with_len}
-use Rattle.grid.specs.Grids.{Grid, GridFit, cells, number, column, row, place, Beside, Neighbours}
+use Rattle.grid.specs.Grids.{Grid, GridFit, cells, place, Beside, Neighbours}
 use Rattle.route.proofs.Places.{PlaceRuns}
 use Rattle.rules.specs.Bends.{Inside, bent_place, step_count, cell_at, bent_path}
 use Rattle.rules.specs.Walks.{Walk, bent_walk}

@@ -1,10 +1,10 @@
 -- The delivered rules are lawful. Assumes nothing.
-use Rattle.std.specs.Prelude.{◌≡◌, ℕ, ◌<◌, ◌≤◌, min, max, Bool, true, ◌&&◌, length, ◌==◌, nat_eq, nat_le, nat_lt, slice_index, slice_index_or, refl}
+use Rattle.std.specs.Prelude.{◌≡◌, ℕ, ◌<◌, min, max, true, length, ◌==◌, nat_eq, nat_le, nat_lt, slice_index, slice_index_or, refl}
 use Rattle.std.proofs.Common.{sym, ap, subst, ◌∙◌, arith, lit≤}
 use Rattle.std.proofs.lemmas.Bool.{eq-eqb, eqb-true, and_from, and_parts, le-leb, ltb-true, lt-ltb}
 use Rattle.orders.proofs.Lists.{any-has, any-from}
 use Rattle.grid.specs.Grids.{Grid, GridFit, cells, column, row, place}
-use Rattle.route.specs.Routes.{Runs, RouteLawful}
+use Rattle.route.specs.Routes.{RouteLawful}
 use Rattle.route.proofs.Places.{runs-from}
 use Rattle.rules.specs.Bends.{toward, row_place, bent_path, amid, in_rectangle, one_bend, rectangle}
 use Rattle.rules.specs.BendsLemmas.{inside, place_of_cell, long, at, bent_runs, bent_below}

@@ -1,8 +1,8 @@
 -- What a search says, and how a loop meets it. Assumes nothing.
-use Rattle.std.proofs.Common.{◌≡◌, ℕ, zero, suc, ◌+◌, ◌<◌, ◌≤◌, max, Bool, true, false, cond, ◌&&◌, ◌||◌, ◌⊎◌, Some, None, Option, sym, refl, ap, ◌∙◌, subst, ap₂, inl, inr, arith}
+use Rattle.std.proofs.Common.{◌≡◌, ℕ, zero, suc, ◌+◌, ◌<◌, ◌≤◌, max, Bool, true, false, cond, ◌&&◌, ◌⊎◌, Some, None, Option, sym, refl, ap, ◌∙◌, subst, ap₂, inl, inr, arith}
 use Rattle.std.proofs.lemmas.Bool.{cond-true, cond-false, cond_both, cases_order, cases_Bool, or_cases, or_left, or_right, lt-ltb, le-ltb, false≢true}
 use Rattle.std.specs.Option.{option_map}
-use Rattle.search.specs.Searches.{first_from, first_below, some_below, highest, tested, beside, scan_from, scan, Earlier, Scanned}
+use Rattle.search.specs.Searches.{first_from, first_below, some_below, highest, tested, beside, scan_from, scan, Scanned}
 
 module _ (p : ℕ → Bool) where
   -- a loop that stops at k

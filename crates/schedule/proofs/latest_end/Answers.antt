@@ -1,4 +1,4 @@
-use Rattle.std.proofs.Common.{◌≡◌, ℕ, suc, ◌+◌, max, sym, ap, ◌∙◌, ap₂, arith}
+use Rattle.std.proofs.Common.{◌≡◌, ℕ, suc, ◌+◌, max, sym, ap, ◌∙◌, arith}
 use Rattle.search.specs.Searches.{highest}
 use Rattle.schedule.specs.Schedules.{span_at}
 use Rattle.schedule.proofs.latest_end.Goals as goal

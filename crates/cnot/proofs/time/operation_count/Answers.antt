@@ -1,4 +1,4 @@
-use Rattle.std.proofs.Common.{◌≡◌, length, ap, ◌∙◌}
+use Rattle.std.proofs.Common.{length, ap, ◌∙◌}
 use Rattle.route.specs.Paths.{path_cells}
 use Rattle.cnot.specs.Links.{operations_along}
 use Rattle.cnot.proofs.Routed.{length_along}

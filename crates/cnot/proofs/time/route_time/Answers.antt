@@ -1,12 +1,11 @@
-use Rattle.std.proofs.Common.{◌≡◌, ℕ, ◌+◌, ◌-◌, ◌*◌, ◌<◌, ◌≤◌, [], ◌∷◌, map, length, get_or, take, sum_by, sym, ap, ◌∙◌, subst, arith}
+use Rattle.std.proofs.Common.{◌≡◌, ◌-◌, length, get_or, take, sum_by, sym, ap, ◌∙◌, arith}
 use Rattle.std.proofs.lemmas.List.{nil_from_length}
 use Rattle.std.proofs.lemmas.List.Sums.{sum_by_more}
 use Rattle.route.specs.Paths.{path_cells}
 use Rattle.cnot.specs.declared.link.Link.{Link}
-use Rattle.cnot.specs.Links.{front, final, times_of, links, time_over}
+use Rattle.cnot.specs.Links.{front, times_of, links, time_over}
 use Rattle.cnot.specs.Steps.{lasting, routed}
 use Rattle.cnot.proofs.Links.{length-links, get_or-links, time-few}
-use Rattle.cnot.proofs.Ways.{final_is}
 use Rattle.cnot.proofs.Routed.{lasting-routed, time_over_is}
 use Rattle.cnot.proofs.time.route_time.Goals as goal
 

@@ -1,9 +1,8 @@
-use Rattle.std.proofs.Common.{◌≡◌, ℕ, ◌+◌, ◌-◌, ◌*◌, ◌<◌, ◌≤◌, List, [], ◌++◌, length, drop, sym, refl, ap, ◌∙◌, arith}
+use Rattle.std.proofs.Common.{◌≡◌, List, [], ◌++◌, length, drop, sym, refl, ap, ◌∙◌, arith}
 use Rattle.std.proofs.lemmas.List.{nil_from_length}
-use Rattle.std.proofs.lemmas.Bool.{le-ltb, lt-ltb}
 use Rattle.circuit.specs.declared.operation.Operation.{Operation}
 use Rattle.cnot.specs.declared.write.Cursor.{Cursor}
-use Rattle.cnot.specs.Links.{times_of, links, operations_along}
+use Rattle.cnot.specs.Links.{times_of, links}
 use Rattle.cnot.specs.Steps.{routed, placed}
 use Rattle.cnot.proofs.Routed.{length_along, along_is, along_none}
 use Rattle.cnot.proofs.Laying.{laid_first, length-placed}

@@ -1,7 +1,5 @@
-use Rattle.std.proofs.Common.{◌≡◌, ℕ, ◌+◌, ◌-◌, ◌*◌, ◌<◌, ◌≤◌, true, [], ◌∷◌, map, length, get_or, sym, ap, ◌∙◌, subst, arith}
+use Rattle.std.proofs.Common.{◌≡◌, ◌-◌, true, [], ◌∷◌, map, length, get_or, sym, ap, ◌∙◌, subst, arith}
 use Rattle.std.specs.List.{flat_map}
-use Rattle.std.proofs.lemmas.List.Sums.{sum_by-cons}
-use Rattle.cnot.specs.declared.link.Link.{Link}
 use Rattle.cnot.specs.Links.{front, final, times_of, links}
 use Rattle.cnot.specs.Steps.{cnot_over, swap_over, turned_if, Laid}
 use Rattle.cnot.proofs.Links.{length-links, get_or-links, time-few}

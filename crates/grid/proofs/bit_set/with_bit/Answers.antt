@@ -1,4 +1,4 @@
-use Rattle.std.proofs.Common.{◌≡◌, ℕ, ◌*◌, ◌%◌, ◌^◌, Bool, ◌&&◌, ◌||◌, eqb, sym, refl, ap, ◌∙◌}
+use Rattle.std.proofs.Common.{◌*◌, ◌%◌, ◌^◌, ◌&&◌, ◌||◌, eqb, sym, ap, ◌∙◌}
 use mathlib.Core.Path.{fun_ext}
 use mathlib.Core.Bool.{or_comm}
 use Rattle.std.proofs.lemmas.Bool.{lt-ltb, le-ltb}

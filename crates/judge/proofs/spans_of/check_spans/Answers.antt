@@ -1,4 +1,4 @@
-use Rattle.std.proofs.Common.{◌≡◌, ℕ, ◌-◌, ◌<◌, ◌≤◌, List, length, take, sym, ◌∙◌, subst, ap₂, arith, length-take-le, get_or-take}
+use Rattle.std.proofs.Common.{◌≡◌, ◌-◌, ◌≤◌, List, length, take, sym, ◌∙◌, subst, ap₂, arith, length-take-le, get_or-take}
 use native.Mathlib.Nat.{sub-zero}
 use Rattle.refusal.specs.Refusals.{ok_unless}
 use Rattle.grid.proofs.Fits.{machine_fit}

@@ -1,4 +1,4 @@
-use Rattle.std.proofs.Common.{◌≡◌, ℕ, ◌<◌, ◌≢◌, length, sym, subst, arith, get_or-set_other, get_or-set_same, below_more}
+use Rattle.std.proofs.Common.{ℕ, ◌<◌, ◌≢◌, length, sym, subst, arith, get_or-set_other, get_or-set_same, below_more}
 use Rattle.plan.specs.Plans.{plan_of}
 use Rattle.spans.specs.declared.span.Span.{Span}
 use Rattle.schedule.specs.Schedules.{no_span}

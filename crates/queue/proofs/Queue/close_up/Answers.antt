@@ -1,4 +1,4 @@
-use Rattle.std.proofs.Common.{◌+◌, ◌-◌, ◌<◌, length, sym, refl, ◌∙◌, arith, length-set, rules}
+use Rattle.std.proofs.Common.{◌-◌, ◌<◌, length, refl, ◌∙◌, arith, length-set}
 use Rattle.queue.proofs.Leaving.{closing_begins, closing_steps, closing_rest}
 use Rattle.queue.proofs.Queue.close_up.Goals as goal
 

@@ -1,4 +1,4 @@
-use Rattle.std.proofs.Common.{◌≡◌, ◌+◌, ◌<◌, length, sym, refl, ap, ◌∙◌, subst, arith, rules}
+use Rattle.std.proofs.Common.{◌+◌, ◌<◌, length, sym, refl, ◌∙◌, subst, arith, rules}
 use Rattle.queue.specs.Held.{Leads}
 use Rattle.queue.proofs.Leaving.{leads_none, leads_more, leads_new, told}
 use Rattle.queue.proofs.Queue.least.Goals as goal

@@ -1,4 +1,4 @@
-use Rattle.std.proofs.Common.{ℕ, ◌<◌, ◌≤◌}
+use Rattle.std.proofs.Common.{◌<◌, ◌≤◌}
 use Rattle.queue.specs.Held.{Leads}
 use Rattle.queue.proofs.Queue.least.Given as goal
 

@@ -1,4 +1,4 @@
-use Rattle.std.proofs.Common.{◌≡◌, ◌∷◌, sym, ap, ◌∙◌, arith}
+use Rattle.std.proofs.Common.{◌∷◌, sym, ap, ◌∙◌, arith}
 use Rattle.orders.specs.Sorting.{sorted}
 use Rattle.orders.proofs.Lists.{drop-later}
 use Rattle.queue.proofs.Leaving.{first_leaves}

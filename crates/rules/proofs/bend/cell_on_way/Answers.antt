@@ -1,4 +1,4 @@
-use Rattle.std.proofs.Common.{◌≡◌, ap, ◌∙◌, ap₂, arith}
+use Rattle.std.proofs.Common.{◌≡◌, ◌∙◌, ap₂, arith}
 use Rattle.grid.specs.Grids.{grid_of}
 use Rattle.grid.proofs.Fits.{machine_fit, few-cells}
 use Rattle.rules.specs.Bends.{bent_place, cell_at}

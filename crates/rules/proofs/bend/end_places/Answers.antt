@@ -1,4 +1,4 @@
-use Rattle.std.proofs.Common.{◌≡◌, sym, ◌∙◌, subst, ap₂}
+use Rattle.std.proofs.Common.{sym, ◌∙◌, subst, ap₂}
 use Rattle.grid.specs.Grids.{grid_of, place}
 use Rattle.grid.proofs.Fits.{machine_fit}
 use Rattle.rules.specs.Bends.{Inside}

@@ -1,4 +1,4 @@
-use Rattle.std.proofs.Common.{ℕ, ◌^◌, ◌<◌, arith}
+use Rattle.std.proofs.Common.{◌^◌, ◌<◌, arith}
 use Rattle.grid.specs.Members.{has}
 use Rattle.schedule.proofs.Common.{bit_below, common_test}
 use Rattle.schedule.proofs.overlap.have_common_cell.Goals as goal

@@ -1,4 +1,4 @@
-use Rattle.std.proofs.Common.{◌≡◌, false, ◌&&◌, ◌||◌, eqb, ltb, ap, ◌∙◌}
+use Rattle.std.proofs.Common.{false, ◌&&◌, ◌||◌, eqb, ap, ◌∙◌}
 use mathlib.Core.Path.{fun_ext}
 use mathlib.Core.Bool.{or-false}
 use Rattle.std.proofs.lemmas.Bool.{lt-ltb}
