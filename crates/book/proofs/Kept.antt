@@ -2,7 +2,7 @@
 use Rattle.std.proofs.Common.{◌≡◌, ℕ, zero, suc, ◌*◌, ◌<◌, ◌≤◌, Bool, true, false, not, ◌&&◌, eqb, ltb, leb, List, [], ◌∷◌, ◌++◌, length, get_or, set, replicate, Some, None, Option, sym, refl, ap, ◌∙◌, subst, arith, length-append, length-set, get_or-set_other, get_or-set_same}
 use native.Mathlib.Decide.{ℕ_discrete}
 use lib.ListN.{length-replicate, length-map}
-use Rattle.std.specs.List.{AllByRecursion as All}
+use Rattle.std.specs.List.{AllByRecursion}
 use Rattle.std.proofs.lemmas.List.FromFn.{length-map-range_with_len}
 use Rattle.std.proofs.ByRecursion.{All-push, All-weaker, All-get_or, All-from_get_or}
 use Rattle.std.proofs.lemmas.Bool.{leb-true, leb-false, ltb-false, eqb-false, eq-eqb, and_parts, and_from, both_ways, or_parts, not-false}
@@ -37,7 +37,7 @@ in_between low high v e = let q = and_parts (leb low v) (leb v high) e in (leb-t
 held : (t : Bool) (r : Refusal) → refuse_if (not t) r ≡ None → t ≡ true
 held t r e = not-false t (passed (not t) r e)
 
-first-none : (names : ℕ → Refusal) (test : ℕ → Bool) (ls : List ℕ) → refuse_first names test ls ≡ None → All (λ l. test l ≡ false) ls
+first-none : (names : ℕ → Refusal) (test : ℕ → Bool) (ls : List ℕ) → refuse_first names test ls ≡ None → AllByRecursion (λ l. test l ≡ false) ls
 first-none names test [] e = tt
 first-none names test (l ∷ ls) e = let q = neither (refuse_if (test l) (names l)) _ e in (passed (test l) (names l) q.0, first-none names test ls q.1)
 
@@ -75,14 +75,14 @@ distinct_from (Action.One k a) e = tt
 distinct_from (Action.Cnot a b) e = eqb-false a b e
 
 -- a label that was not read
-not_read : (gs : List Gate) (l : ℕ) → was_read gs l ≡ false → All (λ g. (is_read g.action && eqb (first_wire g.action) l) ≡ false) gs
+not_read : (gs : List Gate) (l : ℕ) → was_read gs l ≡ false → AllByRecursion (λ g. (is_read g.action && eqb (first_wire g.action) l) ≡ false) gs
 not_read [] l e = tt
 not_read (g ∷ gs) l e = let q = or_parts (is_read g.action && eqb (first_wire g.action) l) (was_read gs l) e in (q.0, not_read gs l q.1)
 
-pairs_push : (gs : List Gate) (x : Action) → Pairs NotAfterRead gs → All (λ l. was_read gs l ≡ false) (wires x) → Pairs NotAfterRead (gs ++ (untimed x ∷ []))
+pairs_push : (gs : List Gate) (x : Action) → Pairs NotAfterRead gs → AllByRecursion (λ l. was_read gs l ≡ false) (wires x) → Pairs NotAfterRead (gs ++ (untimed x ∷ []))
 pairs_push gs x p a =
     pairs_append NotAfterRead gs (untimed x ∷ []) p (tt, tt)
-    (All-from_get_or (λ g. All (NotAfterRead g) (untimed x ∷ [])) gs no_gate (λ k h. (
+    (All-from_get_or (λ g. AllByRecursion (NotAfterRead g) (untimed x ∷ [])) gs no_gate (λ k h. (
       λ r i. let g = get_or gs k no_gate in let w = all_in (λ l. was_read gs l ≡ false) (wires x) (first_wire g.action) a i in
           both_ways (is_read g.action && eqb (first_wire g.action) (first_wire g.action))
           (All-get_or (λ y. (is_read y.action && eqb (first_wire y.action) (first_wire g.action)) ≡ false) gs k no_gate h (not_read gs (first_wire g.action) w))
@@ -107,7 +107,7 @@ kept-added p k (Some x) e =
       calibrated = k.calibrated;
       in_range = k.in_range;
       on_machine = k.on_machine;
-      labels_below = All-push (λ g. All (λ y. y < labels p) (wires g.action)) p.gates (untimed x) k.labels_below
+      labels_below = All-push (λ g. AllByRecursion (λ y. y < labels p) (wires g.action)) p.gates (untimed x) k.labels_below
           (All-weaker (λ l. leb (labels p) l ≡ false) (λ l. l < labels p) (λ l t. leb-false (labels p) l t) (wires x) (first-none Refusal.NoSuchLabel (λ l. leb (labels p) l) (wires x) e₁.0));
       distinct = All-push (λ g. Distinct g.action) p.gates (untimed x) k.distinct (distinct_from x (passed (is_twice x) Refusal.SameLabel e₂.0));
       timings_fit = All-push TimingFit p.gates (untimed x) k.timings_fit (omega arith, omega arith);
@@ -147,7 +147,7 @@ kept-placed p l c k h j =
       calibrated = k.calibrated;
       in_range = k.in_range;
       on_machine = λ m d e. at m d e (ℕ_discrete m l);
-      labels_below = subst (λ n. All (λ g. All (λ y. y < n) (wires g.action)) p.gates) (sym long) k.labels_below;
+      labels_below = subst (λ n. AllByRecursion (λ g. AllByRecursion (λ y. y < n) (wires g.action)) p.gates) (sym long) k.labels_below;
       distinct = k.distinct;
       timings_fit = k.timings_fit;
       reads_last = k.reads_last;

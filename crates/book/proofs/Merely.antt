@@ -3,7 +3,7 @@ use Rattle.std.proofs.Common.{◌≡◌, ℕ, ◌<◌, ◌≤◌, List, [], ◌�
 use mathlib.Core.Logic.{∥∥₁_elim, ∥∥₁_map}
 use mathlib.Core.HLevel.{Π_prop}
 use denote.Struct.Props.{props}
-use Rattle.std.specs.List.{AllByRecursion as All}
+use Rattle.std.specs.List.{AllByRecursion}
 use Rattle.orders.specs.Lists.{Pairs}
 use Rattle.circuit.specs.declared.action.Action.{Action}
 use Rattle.circuit.specs.Actions.{wires, Distinct}
@@ -18,7 +18,7 @@ use Rattle.book.specs.Refusals.{refusal}
 use Rattle.book.specs.Histories.{written, unless_refused, fed, History, called}
 use Rattle.book.proofs.Kept.{kept_always}
 
-pub all_prop : {X : Type 0} (P : X → Type 0) → ((x : X) → IsProp (P x)) → (xs : List X) → IsProp (All P xs)
+pub all_prop : {X : Type 0} (P : X → Type 0) → ((x : X) → IsProp (P x)) → (xs : List X) → IsProp (AllByRecursion P xs)
 all_prop P h [] = λ x y. refl
 all_prop P h (x ∷ xs) = λ a b i. (h x a.0 b.0 i, all_prop P h xs a.1 b.1 i)
 
@@ -66,7 +66,7 @@ kept_prop p x y i = record {
   calibrated = same_one _ _ x.calibrated y.calibrated i;
   in_range = ranged_one p x.in_range y.in_range i;
   on_machine = machine_one p x.on_machine y.on_machine i;
-  labels_below = all_prop (λ g. All (λ l. l < labels p) (wires g.action)) (λ g. all_prop (λ l. l < labels p) (λ l. le_one _ _) (wires g.action)) p.gates x.labels_below y.labels_below i;
+  labels_below = all_prop (λ g. AllByRecursion (λ l. l < labels p) (wires g.action)) (λ g. all_prop (λ l. l < labels p) (λ l. le_one _ _) (wires g.action)) p.gates x.labels_below y.labels_below i;
   distinct = all_prop (λ g. Distinct g.action) (λ g. distinct_prop g.action) p.gates x.distinct y.distinct i;
   timings_fit = all_prop TimingFit timing_one p.gates x.timings_fit y.timings_fit i;
   reads_last = pairs_prop NotAfterRead not_after_one p.gates x.reads_last y.reads_last i;

@@ -2,7 +2,7 @@
 use Rattle.std.proofs.Common.{◌≡◌, ℕ, ◌<◌, ◌≤◌, not, ◌&&◌, ltb, List, length, None, ap, ◌∙◌, ap₂, arith}
 use Rattle.std.specs.Option.{option_map}
 use Rattle.std.proofs.lemmas.Bool.{and_parts, not-false}
-use Rattle.search.specs.Searches.{some_below, highest, scan}
+use Rattle.search.specs.Searches.{some_below, highest, scan_pairs}
 use Rattle.search.proofs.Searches.{scan_like, named_like, nothing_found, some_below_narrow, highest_like}
 use Rattle.refusal.specs.declared.Refusal.{Refusal}
 use Rattle.refusal.specs.Refusals.{or_else}
@@ -32,7 +32,7 @@ module _ (p : Plan) (R : Route) (ss : List Span) (long : length ss ≡ gate_coun
 
   early-same : early ss ≡ found p R too_early
   early-same =
-      ap (λ m. option_map (naming p R too_early) (scan (λ i j. ltb i j && early_at ss i j) m m)) long
+      ap (λ m. option_map (naming p R too_early) (scan_pairs (λ i j. ltb i j && early_at ss i j) m m)) long
       ∙ ap (option_map (naming p R too_early)) (scan_like (λ i j. ltb i j && early_at ss i j) (fails p R too_early) n n early_test)
 
   late_test : (i q : ℕ) → i < n → q < 2 → span_late p ss i q ≡ fails p R too_late i q
@@ -40,7 +40,7 @@ module _ (p : Plan) (R : Route) (ss : List Span) (long : length ss ≡ gate_coun
 
   late-same : late p ss ≡ found p R too_late
   late-same =
-      ap (λ m. option_map (λ q. Refusal.PastWindow q.0 (home_or p (wire_at q.1 (span_at ss q.0).action))) (scan (span_late p ss) m 2)) long
+      ap (λ m. option_map (λ q. Refusal.PastWindow q.0 (home_or p (wire_at q.1 (span_at ss q.0).action))) (scan_pairs (span_late p ss) m 2)) long
       ∙ named_like (λ q. Refusal.PastWindow q.0 (home_or p (wire_at q.1 (span_at ss q.0).action))) (naming p R too_late) (span_late p ss) n 2
       (λ q h. ap (λ x. Refusal.PastWindow q.0 (home_or p (wire_at q.1 x))) (sp q.0 h).action)
       ∙ ap (option_map (naming p R too_late)) (scan_like (span_late p ss) (fails p R too_late) n 2 late_test)
@@ -69,7 +69,7 @@ module _ (p : Plan) (R : Route) (ss : List Span) (long : length ss ≡ gate_coun
 
     overlap-same : overlapping ss ≡ found p R overlap
     overlap-same =
-        ap (λ m. option_map (naming p R overlap) (scan (λ i j. ltb i j && overlap_at ss i j) m m)) long
+        ap (λ m. option_map (naming p R overlap) (scan_pairs (λ i j. ltb i j && overlap_at ss i j) m m)) long
         ∙ ap (option_map (naming p R overlap)) (scan_like (λ i j. ltb i j && overlap_at ss i j) (fails p R overlap) n n overlap_test)
 
     pub broken-same : schedule_broken p ss ≡ last_three p R

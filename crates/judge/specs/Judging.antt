@@ -1,13 +1,13 @@
 -- The parts of judging that stand between homes and spans. Assumes nothing.
-use Rattle.std.specs.Prelude.{◌≡◌, ℕ, ◌<◌, Bool, not, List, length, Option, nat_lt, slice_index_or}
+use Rattle.std.specs.Prelude.{is_none, ◌≡◌, ℕ, ◌<◌, Bool, not, List, length, Option, nat_lt, slice_index_or}
 use Rattle.std.specs.Option.{option_map}
-use Rattle.search.specs.Searches.{scan}
+use Rattle.search.specs.Searches.{scan_pairs}
 use Rattle.refusal.specs.declared.Refusal.{Refusal}
 use Rattle.refusal.specs.Refusals.{refuse_if, or_else}
 use Rattle.grid.specs.Members.{has}
 use Rattle.route.specs.Routes.{Route}
 use Rattle.plan.specs.declared.gate.Gate.{Gate}
-use Rattle.plan.specs.Plans.{Plan, no_gate, is_none, choice_or, action_at, start_at}
+use Rattle.plan.specs.Plans.{Plan, no_gate, choice_or, action_at, start_at}
 use Rattle.plan.specs.Durations.{end_at, reserved}
 use Rattle.plan.specs.Verdicts.{is_offered, too_early, overlap, too_late, found}
 use Rattle.placement.specs.Placements.{homes_broken}
@@ -20,7 +20,7 @@ untimed_at gs g = is_none (slice_index_or gs g no_gate).timing
 
 -- the first gate that has none
 abbrev pub untimed : List Gate → Option Refusal
-untimed gs = option_map (λ q. Refusal.NoTiming q.0) (scan (λ g j. untimed_at gs g) (length gs) 1)
+untimed gs = option_map (λ q. Refusal.NoTiming q.0) (scan_pairs (λ g j. untimed_at gs g) (length gs) 1)
 
 -- the choice of the gate g is not offered, where there are n
 abbrev pub unoffered_at : ℕ → List Gate → ℕ → Bool
@@ -28,7 +28,7 @@ unoffered_at n gs g = not (is_offered n (slice_index_or gs g no_gate).action (ch
 
 -- the first gate whose choice is not offered
 abbrev pub unoffered : ℕ → List Gate → Option Refusal
-unoffered n gs = option_map (λ q. Refusal.ChoiceNotOffered q.0) (scan (λ g j. unoffered_at n gs g) (length gs) 1)
+unoffered n gs = option_map (λ q. Refusal.ChoiceNotOffered q.0) (scan_pairs (λ g j. unoffered_at n gs g) (length gs) 1)
 
 -- the span of the gate i
 pub record SpanOf (p : Plan) (R : Route) (i : ℕ) (s : Span) : Type 0 where

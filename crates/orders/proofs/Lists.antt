@@ -1,6 +1,6 @@
 -- Facts by places, and tests of some element. Assumes nothing.
 use Rattle.std.proofs.Common.{◌≡◌, ℕ, zero, suc, ◌+◌, ◌-◌, ◌<◌, ◌≤◌, Bool, true, false, ◌||◌, List, [], ◌∷◌, ◌++◌, length, get_or, take, drop, sym, refl, ap, ◌∙◌, inl, inr, arith}
-use Rattle.std.specs.List.{AllByRecursion as All}
+use Rattle.std.specs.List.{AllByRecursion}
 use Rattle.std.proofs.ByRecursion.{All-from_get_or, All-append}
 use Rattle.std.proofs.lemmas.List.{take_more, drop-drop}
 use Rattle.std.proofs.lemmas.Bool.{or_cases, or_left, or_right, false≢true}
@@ -34,7 +34,7 @@ any_push test (y ∷ ys) x = ap (λ t. test y || t) (any_push test ys x) ∙ or_
 pub any-more : {X : Type 0} (test : X → Bool) (xs : List X) (i : ℕ) (d : X) → i < length xs → any test (take (i + 1) xs) ≡ (test (get_or xs i d) || any test (take i xs))
 any-more test xs i d h = ap (any test) (take_more xs i d h) ∙ any_push test (take i xs) (get_or xs i d)
 
-pub pairs_append : {X : Type 0} (R : X → X → Type 0) (xs ys : List X) → Pairs R xs → Pairs R ys → All (λ x. All (R x) ys) xs → Pairs R (xs ++ ys)
+pub pairs_append : {X : Type 0} (R : X → X → Type 0) (xs ys : List X) → Pairs R xs → Pairs R ys → AllByRecursion (λ x. AllByRecursion (R x) ys) xs → Pairs R (xs ++ ys)
 pairs_append R [] ys p q a = q
 pairs_append R (x ∷ xs) ys p q a = (All-append (R x) xs ys p.0 a.0, pairs_append R xs ys p.1 q a.1)
 

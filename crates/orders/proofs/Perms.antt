@@ -1,30 +1,30 @@
 -- The lemmas on permutations. Assumes nothing.
 use Rattle.std.proofs.Common.{◌≡◌, ℕ, zero, suc, ◌<◌, List, [], ◌∷◌, ◌++◌, length, get_or, set, sym, refl, ap, ◌∙◌, subst, inl, inr, arith, length-set, get_or-set_other, get_or-set_same}
 use native.Mathlib.Decide.{ℕ_discrete as dec_eq}
-use Rattle.std.specs.List.{AllByRecursion as All, swap}
-use Rattle.orders.specs.Lists.{Any}
+use Rattle.std.specs.List.{AllByRecursion, swap}
+use Rattle.orders.specs.Lists.{AnyByRecursion}
 use Rattle.orders.specs.Perms.{Insert, here, there, Perm, none, more}
 use Rattle.std.specs.List.Sorted.{IsPermutation}
 use Rattle.std.proofs.lemmas.List.Sorted.{IsPermutation-keeps}
 
 -- what holds of a list with x put in holds of x, and of the list
-pub all_insert_it : {X : Type 0} {x : X} {xs ys : List X} (P : X → Type 0) → Insert x xs ys → All P ys → P x
+pub all_insert_it : {X : Type 0} {x : X} {xs ys : List X} (P : X → Type 0) → Insert x xs ys → AllByRecursion P ys → P x
 all_insert_it P here a = a.0
 all_insert_it P (there i) a = all_insert_it P i a.1
 
-pub all_insert_rest : {X : Type 0} {x : X} {xs ys : List X} (P : X → Type 0) → Insert x xs ys → All P ys → All P xs
+pub all_insert_rest : {X : Type 0} {x : X} {xs ys : List X} (P : X → Type 0) → Insert x xs ys → AllByRecursion P ys → AllByRecursion P xs
 all_insert_rest P here a = a.1
 all_insert_rest P (there i) a = (a.0, all_insert_rest P i a.1)
 
-pub all_insert : {X : Type 0} {x : X} {xs ys : List X} (P : X → Type 0) → Insert x xs ys → P x → All P xs → All P ys
+pub all_insert : {X : Type 0} {x : X} {xs ys : List X} (P : X → Type 0) → Insert x xs ys → P x → AllByRecursion P xs → AllByRecursion P ys
 all_insert P here p a = (p, a)
 all_insert P (there i) p a = (a.0, all_insert P i p a.1)
 
-pub all_perm : {X : Type 0} {xs ys : List X} (P : X → Type 0) → Perm xs ys → All P xs → All P ys
+pub all_perm : {X : Type 0} {xs ys : List X} (P : X → Type 0) → Perm xs ys → AllByRecursion P xs → AllByRecursion P ys
 all_perm P none a = tt
 all_perm P (more p i) a = all_insert P i a.0 (all_perm P p a.1)
 
-pub all_perm_back : {X : Type 0} {xs ys : List X} (P : X → Type 0) → Perm xs ys → All P ys → All P xs
+pub all_perm_back : {X : Type 0} {xs ys : List X} (P : X → Type 0) → Perm xs ys → AllByRecursion P ys → AllByRecursion P xs
 all_perm_back P none a = tt
 all_perm_back P (more p i) a = (all_insert_it P i a, all_perm_back P p (all_insert_rest P i a))
 
@@ -108,26 +108,26 @@ perm_exchanged (d ∷ xs) i j h k =
 pub perm_from_shuffled : {X : Type 0} (xs ys : List X) → IsPermutation xs ys → Perm xs ys
 perm_from_shuffled xs ys h = IsPermutation-keeps xs (Perm xs) (perm_refl xs) (λ l i j a b p. perm_trans p (perm_exchanged l i j a b)) ys h
 
-pub some_insert_it : {X : Type 0} {x : X} {xs ys : List X} (P : X → Type 0) → Insert x xs ys → P x → Any P ys
+pub some_insert_it : {X : Type 0} {x : X} {xs ys : List X} (P : X → Type 0) → Insert x xs ys → P x → AnyByRecursion P ys
 some_insert_it P here p = inl p
 some_insert_it P (there i) p = inr (some_insert_it P i p)
 
-pub some_insert_rest : {X : Type 0} {x : X} {xs ys : List X} (P : X → Type 0) → Insert x xs ys → Any P xs → Any P ys
+pub some_insert_rest : {X : Type 0} {x : X} {xs ys : List X} (P : X → Type 0) → Insert x xs ys → AnyByRecursion P xs → AnyByRecursion P ys
 some_insert_rest P here s = inr s
 some_insert_rest P (there i) (inl p) = inl p
 some_insert_rest P (there i) (inr s) = inr (some_insert_rest P i s)
 
 -- some element of a list in another order
-pub some_perm : {X : Type 0} {xs ys : List X} (P : X → Type 0) → Perm xs ys → Any P xs → Any P ys
+pub some_perm : {X : Type 0} {xs ys : List X} (P : X → Type 0) → Perm xs ys → AnyByRecursion P xs → AnyByRecursion P ys
 some_perm P none s = s
 some_perm P (more p i) (inl h) = some_insert_it P i h
 some_perm P (more p i) (inr s) = some_insert_rest P i (some_perm P p s)
 
-pub some_left : {X : Type 0} (P : X → Type 0) (xs ys : List X) → Any P xs → Any P (xs ++ ys)
+pub some_left : {X : Type 0} (P : X → Type 0) (xs ys : List X) → AnyByRecursion P xs → AnyByRecursion P (xs ++ ys)
 some_left P [] ys s = absurd s
 some_left P (x ∷ xs) ys (inl h) = inl h
 some_left P (x ∷ xs) ys (inr s) = inr (some_left P xs ys s)
 
-pub some_right : {X : Type 0} (P : X → Type 0) (xs ys : List X) → Any P ys → Any P (xs ++ ys)
+pub some_right : {X : Type 0} (P : X → Type 0) (xs ys : List X) → AnyByRecursion P ys → AnyByRecursion P (xs ++ ys)
 some_right P [] ys s = s
 some_right P (x ∷ xs) ys s = inr (some_right P xs ys s)

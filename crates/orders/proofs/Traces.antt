@@ -1,7 +1,7 @@
 -- Two orders of a list that agree on each dependent pair differ by exchanges of independent neighbours. Assumes nothing.
 use Rattle.std.proofs.Common.{ℕ, ◌<◌, ◌≤◌, ◌≢◌, List, [], ◌∷◌, map, arith}
 use native.Mathlib.Decide.{dec_le}
-use Rattle.std.specs.List.{AllByRecursion as All}
+use Rattle.std.specs.List.{AllByRecursion}
 use Rattle.std.proofs.ByRecursion.{All-weaker}
 use Rattle.orders.specs.Perms.{Insert, here, there, Perm, none, more}
 use Rattle.orders.specs.Lists.{Pairs}
@@ -12,7 +12,7 @@ use Rattle.orders.proofs.Pairs.{pairs_insert_rest, pairs_perm, pairs_weaker, pai
 -- x goes to the front past elements of which it is independent
 pub to_front : {X : Type 0} {x : X} {xs ys : List X} (D : X → X → Type 0) (L : X → X → Type 0)
     → ((a b : X) → D a b → D b a) → ((a b : X) → L a b → L b a → ⊥)
-    → Insert x xs ys → Pairs (λ a b. D a b → L a b) ys → All (λ b. D x b → L x b) xs
+    → Insert x xs ys → Pairs (λ a b. D a b → L a b) ys → AllByRecursion (λ b. D x b → L x b) xs
     → Exchanges (λ a b. D a b → ⊥) (x ∷ xs) ys
 to_front D L s n here p a = same
 to_front {x = x} D L s n (there {y = y} i) p a =
@@ -56,7 +56,7 @@ exchanges_map J f h (keep w) = keep (exchanges_map J f h w)
 exchanges_map J f h (turn {x = x} {y = y} i) = turn (h x y i)
 exchanges_map J f h (next w v) = next (exchanges_map J f h w) (exchanges_map J f h v)
 
-pub all_exchanges : {X : Type 0} {I : X → X → Type 0} {xs ys : List X} (P : X → Type 0) → Exchanges I xs ys → All P xs → All P ys
+pub all_exchanges : {X : Type 0} {I : X → X → Type 0} {xs ys : List X} (P : X → Type 0) → Exchanges I xs ys → AllByRecursion P xs → AllByRecursion P ys
 all_exchanges P same a = a
 all_exchanges P (keep w) a = (a.0, all_exchanges P w a.1)
 all_exchanges P (turn i) a = (a.1.0, (a.0, a.1.1))

@@ -1,10 +1,10 @@
 // The first constraint: a label that a gate uses has a home.
-ghost use Rattle.std.specs.Prelude.{◌≡◌, ℕ, ◌<◌, false, ◌&&◌, length};
+ghost use Rattle.std.specs.Prelude.{is_none, ◌≡◌, ℕ, ◌<◌, false, ◌&&◌, length};
 ghost use Rattle.orders.specs.Lists.{any};
-ghost use Rattle.search.specs.Searches.{highest, scan};
+ghost use Rattle.search.specs.Searches.{highest, scan_pairs};
 ghost use Rattle.refusal.specs.Refusals.{ok_unless};
 ghost use Rattle.grid.specs.Grids.{grid_of};
-ghost use Rattle.plan.specs.Plans.{is_none, home_among, no_gate};
+ghost use Rattle.plan.specs.Plans.{home_among, no_gate};
 ghost use Rattle.plan.specs.Verdicts.{past_labels};
 ghost use Rattle.placement.specs.Placements.{uses, label_bound, missing_at, missing};
 

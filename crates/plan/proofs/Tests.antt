@@ -1,5 +1,5 @@
 -- Each constraint is broken exactly where its test fails. Assumes nothing.
-use Rattle.std.proofs.Common.{◌≡◌, ℕ, zero, suc, ◌<◌, true, ◌&&◌, ◌||◌, eqb, ltb, List, [], ◌∷◌, Some, None, Option, sym, refl, ap, ◌∙◌, subst, ap₂, inl, inr, arith}
+use Rattle.std.proofs.Common.{is_none, ◌≡◌, ℕ, zero, suc, ◌<◌, true, ◌&&◌, ◌||◌, eqb, ltb, List, [], ◌∷◌, Some, None, Option, sym, refl, ap, ◌∙◌, subst, ap₂, inl, inr, arith}
 use Rattle.std.proofs.lemmas.Bool.{and_parts, and_from, lt-ltb, ltb-true, eq-eqb, eqb-true, both_ways, cases_Bool, or_cases, not-true, not_from_false, false≢true}
 use Rattle.orders.specs.Lists.{In, Common, any}
 use Rattle.orders.proofs.Lists.{any-has, any-from}
@@ -9,7 +9,7 @@ use Rattle.circuit.specs.declared.action.Action.{Action}
 use Rattle.circuit.specs.Actions.{names, wires, wire_at}
 use Rattle.grid.specs.Grids.{cells}
 use Rattle.route.specs.Routes.{Route}
-use Rattle.plan.specs.Plans.{Plan, no_gate, is_none, gate_count, action_at, timing_at, labels_at, start_at, choice_at, home_at, window}
+use Rattle.plan.specs.Plans.{Plan, no_gate, gate_count, action_at, timing_at, labels_at, start_at, choice_at, home_at, window}
 use Rattle.plan.specs.Durations.{end_at, reserved}
 use Rattle.plan.specs.Constraints.{Offered, Broken}
 use Rattle.plan.specs.Verdicts.{Constraint, no_home, one_home, no_timing, no_choice, too_early, overlap, too_late, same_home, is_offered, past_labels, late_at, fails, firsts, seconds}

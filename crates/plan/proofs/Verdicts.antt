@@ -2,7 +2,7 @@
 use Rattle.std.proofs.Common.{◌≡◌, ℕ, ◌+◌, ◌<◌, ◌≤◌, true, cond, eqb, ◌⊎◌, List, [], ◌∷◌, is_ok, Some, None, Ok, Err, Option, sym, refl, ap, ◌∙◌, subst, inl, inr, arith}
 use Rattle.std.specs.Option.{option_map}
 use Rattle.std.proofs.lemmas.Bool.{both_ways, cases_order}
-use Rattle.search.specs.Searches.{scan, Earlier, Scanned}
+use Rattle.search.specs.Searches.{scan_pairs, Earlier, Scanned}
 use Rattle.search.proofs.Searches.{scanned, highest-bound, highest-met}
 use Rattle.refusal.specs.declared.Refusal.{Refusal}
 use Rattle.refusal.specs.Refusals.{shown, number, or_else, ok_unless}
@@ -98,7 +98,7 @@ module _ (p : Plan) (R : Route) where
   step c (Some q) o s t = hit c q.0 q.1 s
 
   one_more : (c : Constraint) (cs : List Constraint) → TellsFrom (order c + 1) (first_of p R cs) → TellsFrom (order c) (first_of p R (c ∷ cs))
-  one_more c cs t = step c (scan (fails p R c) (firsts p R c) (seconds p R c)) (first_of p R cs) (scanned (fails p R c) (firsts p R c) (seconds p R c)) t
+  one_more c cs t = step c (scan_pairs (fails p R c) (firsts p R c) (seconds p R c)) (first_of p R cs) (scanned (fails p R c) (firsts p R c) (seconds p R c)) t
 
   pub all_tell : TellsFrom 21 (first_broken p R)
   all_tell =

@@ -1,6 +1,6 @@
 -- What the plan of every job keeps. Assumes nothing.
 use Rattle.std.specs.Prelude.{◌≡◌, ℕ, ◌<◌, ◌≤◌, true, length, Some, None, slice_index_or}
-use Rattle.std.specs.List.{AllByRecursion as All}
+use Rattle.std.specs.List.{AllByRecursion}
 use Rattle.orders.specs.Lists.{Pairs, In}
 use Rattle.circuit.specs.Actions.{wires, first_wire, is_read, Distinct}
 use Rattle.grid.specs.Grids.{cells, GridFit}
@@ -26,7 +26,7 @@ pub record Kept (p : Plan) : Type 0 where
   pub calibrated : length p.calibration ≡ cells p.machine
   pub in_range : InRange p.machine p.calibration
   pub on_machine : (l c : ℕ) → slice_index_or p.homes l None ≡ Some c → c < cells p.machine
-  pub labels_below : All (λ g. All (λ l. l < labels p) (wires g.action)) p.gates
-  pub distinct : All (λ g. Distinct g.action) p.gates
-  pub timings_fit : All TimingFit p.gates
+  pub labels_below : AllByRecursion (λ g. AllByRecursion (λ l. l < labels p) (wires g.action)) p.gates
+  pub distinct : AllByRecursion (λ g. Distinct g.action) p.gates
+  pub timings_fit : AllByRecursion TimingFit p.gates
   pub reads_last : Pairs NotAfterRead p.gates

@@ -1,7 +1,7 @@
 -- The listing and the agenda. Assumes nothing.
 use Rattle.std.specs.Prelude.{◌≡◌, ℕ, ◌<◌, ◌≤◌, List, [], ◌∷◌, Some, None, Option}
-use Rattle.std.specs.List.{range_with_len, flat_map, AllByRecursion as All}
-use Rattle.orders.specs.Lists.{Any, In}
+use Rattle.std.specs.List.{range_with_len, flat_map, AllByRecursion}
+use Rattle.orders.specs.Lists.{AnyByRecursion, In}
 use Rattle.orders.specs.Sorting.{sorted, Sorted}
 use Rattle.circuit.specs.declared.action.Action.{Action}
 use Rattle.circuit.specs.declared.operation.Operation.{Operation}
@@ -48,8 +48,8 @@ pub record WellListed (p : Plan) (R : Route) (os : List Operation) : Type 0 wher
   -- it is itself in an allowed order
   pub allowed : Allowed os
   -- its CNOTs join neighbours
-  pub neighbours : All (λ o. JoinsNeighbours p.machine o.action) os
+  pub neighbours : AllByRecursion (λ o. JoinsNeighbours p.machine o.action) os
   -- every gate has operations in it
-  pub every_gate : (g : ℕ) → g < gate_count p → Any (λ o. o.gate ≡ g) os
+  pub every_gate : (g : ℕ) → g < gate_count p → AnyByRecursion (λ o. o.gate ≡ g) os
   -- each ends within its gate's windows
-  pub windows : All (InWindows p) os
+  pub windows : AllByRecursion (InWindows p) os

@@ -45,11 +45,6 @@ retimed g t = record { action = g.action; timing = t }
 abbrev pub retimed_at : List Gate → ℕ → Option Timing → List Gate
 retimed_at gs g t = slice_set gs g (retimed (slice_index_or gs g no_gate) t)
 
--- there is none
-abbrev pub is_none : {X : Type 0} → Option X → Bool
-is_none None = true
-is_none (Some x) = false
-
 -- the cell, where it is one of the grid's
 abbrev pub on_grid : Grid → Option ℕ → Option ℕ
 on_grid g None = None

@@ -1,15 +1,15 @@
 -- Judging: the constraints as tests, the first that is broken, and the law above it. Assumes nothing.
-use Rattle.std.specs.Prelude.{◌≡◌, ℕ, suc, ◌<◌, ◌≤◌, max, Bool, true, false, not, ◌&&◌, ◌⊎◌, List, [], ◌∷◌, is_ok, Some, None, Ok, Err, Option, Result, ◌==◌, nat_lt}
+use Rattle.std.specs.Prelude.{is_none, ◌≡◌, ℕ, suc, ◌<◌, ◌≤◌, max, Bool, true, false, not, ◌&&◌, ◌⊎◌, List, [], ◌∷◌, is_ok, Some, None, Ok, Err, Option, Result, ◌==◌, nat_lt}
 use Rattle.std.specs.Option.{option_map}
 use Rattle.orders.specs.Lists.{any}
-use Rattle.search.specs.Searches.{some_below, highest, scan}
+use Rattle.search.specs.Searches.{some_below, highest, scan_pairs}
 use Rattle.refusal.specs.declared.Refusal.{Refusal}
 use Rattle.refusal.specs.Refusals.{refuse_if, or_else, ok_unless}
 use Rattle.circuit.specs.declared.action.Action.{Action}
 use Rattle.circuit.specs.Actions.{names, share, wire_at}
 use Rattle.grid.specs.Grids.{cells}
 use Rattle.route.specs.Routes.{Route}
-use Rattle.plan.specs.Plans.{Plan, is_none, labels, gate_count, action_at, timing_at, start_at, choice_at, home_at, home, window}
+use Rattle.plan.specs.Plans.{Plan, labels, gate_count, action_at, timing_at, start_at, choice_at, home_at, home, window}
 use Rattle.plan.specs.Durations.{end_at, reserved}
 use Rattle.plan.specs.Constraints.{Broken, BreaksNone, Before}
 
@@ -93,7 +93,7 @@ module _ (p : Plan) (R : Route) where
 
   -- where the constraint is broken, at its lowest places
   abbrev pub found : Constraint → Option Refusal
-  found c = option_map (naming c) (scan (fails c) (firsts c) (seconds c))
+  found c = option_map (naming c) (scan_pairs (fails c) (firsts c) (seconds c))
 
   -- the first of the constraints that is broken
   abbrev pub first_of : List Constraint → Option Refusal

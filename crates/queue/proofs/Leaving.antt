@@ -1,6 +1,6 @@
 -- What joins and leaves a queue. Assumes nothing.
 use Rattle.std.proofs.Common.{◌≡◌, ℕ, suc, ◌+◌, ◌<◌, ◌≤◌, Bool, true, false, cond, ◌⊎◌, List, [], ◌∷◌, ◌++◌, length, get_or, take, drop, set, sym, refl, ap, ◌∙◌, inl, inr, true≢false, add-one, arith}
-use Rattle.std.specs.List.{remove, AllByRecursion as All}
+use Rattle.std.specs.List.{remove, AllByRecursion}
 use Rattle.std.proofs.lemmas.List.{take-append-drop, drop_more, get_or-take, get_or-drop, length-take-le, length-drop, length-take, take-append-le, drop-append-le, append_assoc, append-nil, take-take, drop_all, take_more, take_more_set, drop-set-lt, drop-drop, get_or_read}
 use Rattle.std.proofs.ByRecursion.{All-from_get_or}
 use Rattle.std.proofs.Permutation.{which}
@@ -16,24 +16,24 @@ cases (inl a) f g = f a
 cases (inr b) f g = g b
 
 module _ {X : Type 0} (before : X → X → Bool) where
-  put_in_every : (P : X → Type 0) (x : X) (l : List X) → P x → All P l → All P (put_in before x l)
+  put_in_every : (P : X → Type 0) (x : X) (l : List X) → P x → AllByRecursion P l → AllByRecursion P (put_in before x l)
   put_in_every P x [] p h = (p, tt)
-  put_in_every P x (y ∷ ys) p h = elim (before x y) as (λ b. All P (cond b (x ∷ (y ∷ ys)) (y ∷ put_in before x ys))) [ true ↦ (p, h) | false ↦ (h.0, put_in_every P x ys p h.1) ]
+  put_in_every P x (y ∷ ys) p h = elim (before x y) as (λ b. AllByRecursion P (cond b (x ∷ (y ∷ ys)) (y ∷ put_in before x ys))) [ true ↦ (p, h) | false ↦ (h.0, put_in_every P x ys p h.1) ]
 
-  put_in_all_every : (P : X → Type 0) (l xs : List X) → All P l → All P xs → All P (put_in_all before l xs)
+  put_in_all_every : (P : X → Type 0) (l xs : List X) → AllByRecursion P l → AllByRecursion P xs → AllByRecursion P (put_in_all before l xs)
   put_in_all_every P l [] h k = h
   put_in_all_every P l (x ∷ xs) h k = put_in_all_every P (put_in before x l) xs (put_in_every P x l k.0 h) k.1
 
-  put_in-first : (x : X) (s : List X) → All (λ y. before x y ≡ true) s → put_in before x s ≡ x ∷ s
+  put_in-first : (x : X) (s : List X) → AllByRecursion (λ y. before x y ≡ true) s → put_in before x s ≡ x ∷ s
   put_in-first x [] h = refl
   put_in-first x (y ∷ ys) h = ap (λ b. cond b (x ∷ (y ∷ ys)) (y ∷ put_in before x ys)) h.0
 
-  put_in_behind : (x : X) (s ys : List X) → All (λ y. before y x ≡ false) ys → put_in_all before (x ∷ s) ys ≡ x ∷ put_in_all before s ys
+  put_in_behind : (x : X) (s ys : List X) → AllByRecursion (λ y. before y x ≡ false) ys → put_in_all before (x ∷ s) ys ≡ x ∷ put_in_all before s ys
   put_in_behind x s [] h = refl
   put_in_behind x s (y ∷ ys) h = ap (λ b. put_in_all before (cond b (y ∷ (x ∷ s)) (x ∷ put_in before y s)) ys) h.0 ∙ put_in_behind x (put_in before y s) ys h.1
 
   -- x comes before those that stand before it, and none behind it comes before x
-  least_leaves : (a : List X) (x : X) (b : List X) → All (λ y. before x y ≡ true) a → All (λ y. before y x ≡ false) b → sorted before (a ++ (x ∷ b)) ≡ x ∷ sorted before (a ++ b)
+  least_leaves : (a : List X) (x : X) (b : List X) → AllByRecursion (λ y. before x y ≡ true) a → AllByRecursion (λ y. before y x ≡ false) b → sorted before (a ++ (x ∷ b)) ≡ x ∷ sorted before (a ++ b)
   least_leaves a x b h k =
       put_in_all-append before [] a (x ∷ b) ∙ ap (λ q. put_in_all before q b) (put_in-first x (sorted before a) (put_in_all_every (λ y. before x y ≡ true) [] a tt h))
       ∙ put_in_behind x (sorted before a) b k ∙ ap (λ q. x ∷ q) (sym (put_in_all-append before [] a b))

@@ -1,6 +1,6 @@
 -- A register refuses a list of operations exactly when it does not take it, for the first test that fails. Assumes nothing.
 use Rattle.std.proofs.Common.{◌≡◌, ℕ, zero, suc, ◌+◌, ◌<◌, Bool, true, false, cond, not, ltb, leb, List, [], ◌∷◌, length, get_or, Some, None, Option, sym, refl, ap, ◌∙◌, subst, inl, inr, zero-add, arith}
-use Rattle.std.specs.List.{AllByRecursion as All}
+use Rattle.std.specs.List.{AllByRecursion}
 use Rattle.std.proofs.ByRecursion.{All-get_or, All-from_get_or}
 use Rattle.std.proofs.lemmas.Bool.{leb-false, lt-leb, ltb-true, ltb-false, eqb-false, ne_eqb, or_parts, or_from, both_ways, cases_Bool, cases_lt, not-true, not-false, cond_both}
 use Rattle.orders.specs.Lists.{any}
@@ -16,11 +16,11 @@ use Rattle.register.specs.Runs.{Capacity, is_off_wires, at_first, too_few, runni
 some_none : {X : Type 0} (x : X) → Some x ≡ None → ⊥
 some_none x e = let z : ◌≡◌ {A = ℕ} 0 1 = cc in omega arith
 
-all_below : (n : ℕ) (cs : List ℕ) → any (λ c. leb n c) cs ≡ false → All (λ c. c < n) cs
+all_below : (n : ℕ) (cs : List ℕ) → any (λ c. leb n c) cs ≡ false → AllByRecursion (λ c. c < n) cs
 all_below n [] e = tt
 all_below n (c ∷ cs) e = let q = or_parts (leb n c) (any (λ x. leb n x) cs) e in (leb-false n c q.0, all_below n cs q.1)
 
-below_all : (n : ℕ) (cs : List ℕ) → All (λ c. c < n) cs → any (λ c. leb n c) cs ≡ false
+below_all : (n : ℕ) (cs : List ℕ) → AllByRecursion (λ c. c < n) cs → any (λ c. leb n c) cs ≡ false
 below_all n [] a = refl
 below_all n (c ∷ cs) a = or_from (leb n c) (any (λ x. leb n x) cs) (lt-leb n c a.0) (below_all n cs a.1)
 

@@ -1,6 +1,6 @@
 -- What a list of operations is refused for on a register. Assumes nothing.
 use Rattle.std.specs.Prelude.{◌≡◌, ℕ, ◌+◌, ◌<◌, ◌≤◌, Bool, false, cond, not, ◌||◌, ◌⊎◌, List, [], ◌∷◌, length, Some, None, Option, ◌==◌, nat_le, nat_lt, slice_index_or}
-use Rattle.std.specs.List.{AllByRecursion as All}
+use Rattle.std.specs.List.{AllByRecursion}
 use Rattle.orders.specs.Lists.{any}
 use Rattle.circuit.specs.declared.action.Single.{Single}
 use Rattle.circuit.specs.declared.action.Action.{Action}
@@ -54,7 +54,7 @@ applying_refusal r x = running_refusal r (alone x)
 
 -- the register takes the operations: each fits it, the H stay within the greatest count, and there are places for the readings
 pub record Taken (r : Capacity) (os : List Operation) : Type 0 where
-  pub fits : All (λ o. Fit r.wires r.takes o.action) os
+  pub fits : AllByRecursion (λ o. Fit r.wires r.takes o.action) os
   pub few : r.done + h_count os ≤ r.most
   pub room : (n : ℕ) → r.places ≡ Some n → read_count os ≤ n
 

@@ -1,6 +1,6 @@
 -- Routes: what a rule gives for two cells of a grid and a choice, and when it is lawful. Assumes nothing.
 use Rattle.std.specs.Prelude.{◌≡◌, ℕ, ◌<◌, ◌≤◌, Bool, true, ◌≢◌, List}
-use Rattle.std.specs.List.{AllByRecursion as All}
+use Rattle.std.specs.List.{AllByRecursion}
 use Rattle.grid.specs.Grids.{Grid, GridFit, cells}
 use Rattle.route.specs.Ends.{Ends}
 use Rattle.route.specs.Paths.{FromTo, NoTwice, Stepped}
@@ -23,7 +23,7 @@ pub record Runs (g : Grid) (a z : ℕ) (path : List ℕ) (reserved : ℕ → Boo
   pub from_to : FromTo a z path
   pub stepped : Stepped g path
   pub no_twice : NoTwice path
-  pub kept : All (λ c. reserved c ≡ true) path
+  pub kept : AllByRecursion (λ c. reserved c ≡ true) path
   pub only_cells : (c : ℕ) → reserved c ≡ true → c < cells g
 
 -- a lawful rule: on every machine, for two different cells and a choice that it offers

@@ -1,7 +1,7 @@
 -- The constraints on a list of spans. Assumes nothing.
 use Rattle.std.specs.Prelude.{ℕ, Bool, ◌&&◌, List, length, Option, nat_lt, slice_index_or}
 use Rattle.std.specs.Option.{option_map}
-use Rattle.search.specs.Searches.{some_below, highest, scan}
+use Rattle.search.specs.Searches.{some_below, highest, scan_pairs}
 use Rattle.refusal.specs.declared.Refusal.{Refusal}
 use Rattle.refusal.specs.Refusals.{or_else}
 use Rattle.circuit.specs.declared.action.Single.{Single}
@@ -36,11 +36,11 @@ module _ (ss : List Span) where
 
   -- the first two gates of which the later starts too early
   abbrev pub early : Option Refusal
-  early = option_map (λ q. Refusal.TooEarly q.0 q.1) (scan (λ i j. nat_lt i j && early_at i j) (length ss) (length ss))
+  early = option_map (λ q. Refusal.TooEarly q.0 q.1) (scan_pairs (λ i j. nat_lt i j && early_at i j) (length ss) (length ss))
 
   -- the first two gates that overlap
   abbrev pub overlapping : Option Refusal
-  overlapping = option_map (λ q. Refusal.Overlap q.0 q.1) (scan (λ i j. nat_lt i j && overlap_at i j) (length ss) (length ss))
+  overlapping = option_map (λ q. Refusal.Overlap q.0 q.1) (scan_pairs (λ i j. nat_lt i j && overlap_at i j) (length ss) (length ss))
 
   -- the latest end, 0 where there is no span
   abbrev pub latest : ℕ
@@ -53,7 +53,7 @@ module _ (p : Plan) (ss : List Span) where
 
   -- the first gate that ends after a window, with the cell
   abbrev pub late : Option Refusal
-  late = option_map (λ q. Refusal.PastWindow q.0 (home_or p (wire_at q.1 (span_at ss q.0).action))) (scan span_late (length ss) 2)
+  late = option_map (λ q. Refusal.PastWindow q.0 (home_or p (wire_at q.1 (span_at ss q.0).action))) (scan_pairs span_late (length ss) 2)
 
   -- the first of the three constraints that is broken
   abbrev pub schedule_broken : Option Refusal

@@ -2,7 +2,7 @@
 use Rattle.std.proofs.Common.{◌≡◌, ℕ, zero, suc, ◌+◌, ◌<◌, ◌≤◌, max, Bool, true, false, cond, ◌&&◌, ◌⊎◌, Some, None, Option, sym, refl, ap, ◌∙◌, subst, ap₂, inl, inr, arith}
 use Rattle.std.proofs.lemmas.Bool.{cond-true, cond-false, cond_both, cases_order, cases_Bool, or_cases, or_left, or_right, lt-ltb, le-ltb, false≢true}
 use Rattle.std.specs.Option.{option_map}
-use Rattle.search.specs.Searches.{first_from, first_below, some_below, highest, tested, beside, scan_from, scan, Scanned}
+use Rattle.search.specs.Searches.{first_from, first_below, some_below, highest, tested, beside, scan_from, scan_pairs, Scanned}
 
 module _ (p : ℕ → Bool) where
   -- a loop that stops at k
@@ -56,7 +56,7 @@ module _ (p : ℕ → ℕ → Bool) (m n : ℕ) where
   scanned_from i (suc k) e c =
       step i (first_below (p i) n) (scan_from p n (i + 1) k) (omega arith) c (first-tells (p i) 0 n n (omega arith)) (λ d. scanned_from (i + 1) k (omega arith) d)
 
-  pub scanned : Scanned p m n (scan p m n)
+  pub scanned : Scanned p m n (scan_pairs p m n)
   scanned = scanned_from 0 m (omega arith) (λ a b u v. absurd (omega arith))
 
 module _ (p : ℕ → ℕ → Bool) (n : ℕ) where
@@ -132,7 +132,7 @@ scan_from_like p q n i zero f = refl
 scan_from_like p q n i (suc m) f =
     ap₂ (beside i) (first_like (p i) (q i) 0 n (λ b l. f i b (omega arith) (omega arith))) (scan_from_like p q n (i + 1) m (λ a b l k. f a b (omega arith) k))
 
-pub scan_like : (p q : ℕ → ℕ → Bool) (m n : ℕ) → ((a b : ℕ) → a < m → b < n → p a b ≡ q a b) → scan p m n ≡ scan q m n
+pub scan_like : (p q : ℕ → ℕ → Bool) (m n : ℕ) → ((a b : ℕ) → a < m → b < n → p a b ≡ q a b) → scan_pairs p m n ≡ scan_pairs q m n
 scan_like p q m n f = scan_from_like p q n 0 m (λ a b l k. f a b (omega arith) k)
 
 -- what is made of the places that a search finds, by functions that agree on first places
@@ -140,16 +140,16 @@ mapped_like : {X : Type 0} (f g : ℕ × ℕ → X) (p : ℕ → ℕ → Bool) (
 mapped_like f g p m n None s h = refl
 mapped_like f g p m n (Some q) s h = ap Some (h q s.0)
 
-pub named_like : {X : Type 0} (f g : ℕ × ℕ → X) (p : ℕ → ℕ → Bool) (m n : ℕ) → ((q : ℕ × ℕ) → q.0 < m → f q ≡ g q) → option_map f (scan p m n) ≡ option_map g (scan p m n)
-named_like f g p m n h = mapped_like f g p m n (scan p m n) (scanned p m n) h
+pub named_like : {X : Type 0} (f g : ℕ × ℕ → X) (p : ℕ → ℕ → Bool) (m n : ℕ) → ((q : ℕ × ℕ) → q.0 < m → f q ≡ g q) → option_map f (scan_pairs p m n) ≡ option_map g (scan_pairs p m n)
+named_like f g p m n h = mapped_like f g p m n (scan_pairs p m n) (scanned p m n) h
 
 mapped_none : {X Y : Type 0} (f : X → Y) (o : Option X) → option_map f o ≡ None → o ≡ None
 mapped_none f None e = refl
 mapped_none f (Some x) e = let z : ◌≡◌ {A = ℕ} 0 1 = cc in absurd (omega arith)
 
 -- where a search finds nothing the test fails everywhere
-pub nothing_found : {X : Type 0} (f : ℕ × ℕ → X) (p : ℕ → ℕ → Bool) (m n : ℕ) → option_map f (scan p m n) ≡ None → (a b : ℕ) → a < m → b < n → p a b ≡ false
-nothing_found f p m n e = subst (Scanned p m n) (mapped_none f (scan p m n) e) (scanned p m n)
+pub nothing_found : {X : Type 0} (f : ℕ × ℕ → X) (p : ℕ → ℕ → Bool) (m n : ℕ) → option_map f (scan_pairs p m n) ≡ None → (a b : ℕ) → a < m → b < n → p a b ≡ false
+nothing_found f p m n e = subst (Scanned p m n) (mapped_none f (scan_pairs p m n) e) (scanned p m n)
 
 -- a test that holds only below m
 pub some_below_narrow : (p : ℕ → Bool) (m n : ℕ) → m ≤ n → ((c : ℕ) → p c ≡ true → c < m) → some_below p n ≡ some_below p m

@@ -36,8 +36,8 @@ scan_from test n i zero = None
 scan_from test n i (suc m) = beside i (first_below (test i) n) (scan_from test n (i + 1) m)
 
 -- the first two places, the first below m and the second below n
-abbrev pub scan : (ℕ → ℕ → Bool) → ℕ → ℕ → Option (ℕ × ℕ)
-scan test m n = scan_from test n 0 m
+abbrev pub scan_pairs : (ℕ → ℕ → Bool) → ℕ → ℕ → Option (ℕ × ℕ)
+scan_pairs test m n = scan_from test n 0 m
 
 -- (a, b) comes before (i, j): by the first place, then by the second
 abbrev pub Earlier : ℕ → ℕ → ℕ → ℕ → Type 0

@@ -2,7 +2,7 @@
 #![tactic(auto)]
 
 ghost use Rattle.std.specs.Prelude.{◌≡◌, ℕ, ◌+◌, ◌^◌, ◌<◌, Bool, if◌then◌else◌};
-ghost use Rattle.search.specs.Searches.{tested, first_below, scan, Scanned};
+ghost use Rattle.search.specs.Searches.{tested, first_below, scan_pairs, Scanned};
 
 // A test of two places, each below a bound.
 pub trait PairTest {
@@ -53,7 +53,7 @@ fn first_second<P: PairTest>(test: &P, first: usize) -> Option<usize>
 
 // The least two places at which the test fails, by the first and then by the second, or none where it fails nowhere.
 pub fn first_failure<P: PairTest>(test: &P) -> Option<(usize, usize)>
-    ensures value { result ≡ scan (tested P.PairTest.ordered (P.PairTest.failing test.now)) (P.PairTest.firsts test.now) (P.PairTest.seconds test.now) }
+    ensures value { result ≡ scan_pairs (tested P.PairTest.ordered (P.PairTest.failing test.now)) (P.PairTest.firsts test.now) (P.PairTest.seconds test.now) }
     ensures least { Scanned (tested P.PairTest.ordered (P.PairTest.failing test.now)) (P.PairTest.firsts test.now) (P.PairTest.seconds test.now) result }
 {
     let (firsts, _) = test.bounds();
