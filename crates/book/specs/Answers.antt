@@ -6,7 +6,7 @@ use Rattle.circuit.specs.Operations.{read_count}
 use Rattle.plan.specs.Plans.{Plan, gate_count}
 use Rattle.plan.specs.Blocks.{direct}
 use Rattle.plan.specs.Verdicts.{latest_end}
-use Rattle.plan.specs.Listings.{listing, agenda as agenda-of}
+use Rattle.plan.specs.Listings.{listing, agenda as agenda_of}
 use Rattle.book.specs.Books.{Book, timed}
 use Rattle.book.specs.Calls.{Call, add, close, calibrate, place, time, try, judge, agenda, list, run, reopen}
 use Rattle.book.specs.Refusals.{refusal, opening_refusal}
@@ -20,7 +20,7 @@ ok_answer p (place l c) = l
 ok_answer p (time g s c) = g
 ok_answer p (try R g s c) = latest_end (timed p g s c) R
 ok_answer p (judge R) = latest_end p R
-ok_answer p (agenda n) = length (agenda-of p)
+ok_answer p (agenda n) = length (agenda_of p)
 ok_answer p (list R n) = length (listing p R)
 ok_answer p (run r) = read_count (direct p)
 ok_answer p reopen = gate_count p

@@ -12,7 +12,7 @@ use Rattle.plan.specs.declared.gate.Gate.{Gate}
 use Rattle.plan.specs.Plans.{Plan, labels, gate_count}
 use Rattle.plan.specs.Blocks.{direct}
 use Rattle.plan.specs.Verdicts.{first_broken}
-use Rattle.plan.specs.Listings.{listing, agenda as agenda-of}
+use Rattle.plan.specs.Listings.{listing, agenda as agenda_of}
 use Rattle.placement.specs.Placements.{homes_broken}
 use Rattle.register.specs.Runs.{running_refusal}
 use Rattle.book.specs.Books.{Book, timed}
@@ -59,7 +59,7 @@ refusal b (place l c) = placing_refusal b.plan l c
 refusal b (time g s c) = timing_refusal b.plan g s c
 refusal b (try R g s c) = or_else (timing_refusal b.plan g s c) (first_broken (timed b.plan g s c) R)
 refusal b (judge R) = first_broken b.plan R
-refusal b (agenda n) = refuse_if (nat_lt n (length (agenda-of b.plan))) Refusal.TooFewPlaces
+refusal b (agenda n) = refuse_if (nat_lt n (length (agenda_of b.plan))) Refusal.TooFewPlaces
 refusal b (list R n) = or_else (first_broken b.plan R) (refuse_if (nat_lt n (length (listing b.plan R))) Refusal.TooFewPlaces)
 refusal b (run r) = or_else (homes_broken b.plan.machine b.plan.homes b.plan.gates) (running_refusal r (direct b.plan))
 refusal b reopen = None

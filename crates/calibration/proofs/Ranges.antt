@@ -23,7 +23,7 @@ first-in_range g c l = subst (λ v. calibration_ok g c v ≡ true) (sym (get_or-
 
 -- and other values of one cell, where those are in range
 pub set-in_range : (g : Grid) (vs : List Calibration) (k : ℕ) (v : Calibration) → length vs ≡ cells g → k < cells g → calibration_ok g k v ≡ true → InRange g vs → InRange g (set vs k v)
-set-in_range g vs k v long in-grid ok all c l = at (cases_eq c k)
+set-in_range g vs k v long in_grid ok all c l = at (cases_eq c k)
   where
     at : (c ≡ k) ⊎ (c ≡ k → ⊥) → calibration_ok g c (get_or (set vs k v) c no_values) ≡ true
     at (inl e) = subst (λ d. calibration_ok g d (get_or (set vs k v) d no_values) ≡ true) (sym e) (subst (λ w. calibration_ok g k w ≡ true) (sym (get_or-set_same vs k v no_values (omega arith))) ok)
