@@ -4,8 +4,6 @@
 ghost use Rattle.cases.specs.Cases.{CasesHold};
 
 // The examples come out as written.
-pub fn cases_hold() -> u8
+pub fn cases_hold()
     ensures { CasesHold }
-{
-    0
-}
+{}

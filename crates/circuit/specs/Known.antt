@@ -1,5 +1,5 @@
 -- An operation is known by its key. Assumes nothing.
-use Rattle.std.specs.Prelude.{◌≡◌, ℕ, cond, List, ◌==◌, slice_index, refl}
+use Rattle.std.specs.Prelude.{◌≡◌, ℕ, List, slice_index, slice_index_or, refl}
 use Rattle.std.proofs.Common.{sym, ap, ◌∙◌}
 use Rattle.std.specs.Cmp.{IsTotalOrder}
 use Rattle.orders.specs.Ranks.{TotalOrder, compared}
@@ -9,15 +9,12 @@ use Rattle.circuit.specs.declared.action.Plain.{Plain}
 use Rattle.circuit.specs.declared.action.Single.{Single}
 use Rattle.circuit.specs.declared.action.Action.{Action}
 use Rattle.circuit.specs.declared.operation.Operation.{Operation}
-use Rattle.circuit.specs.Actions.{first_wire, target_or_zero, kind_place}
+use Rattle.circuit.specs.Actions.{first_wire, target_or_zero, of_each_kind, kind_place}
 use Rattle.circuit.specs.Operations.{operation_key, operation_before}
 
 -- an action by the place of its kind and its wires
 kind_at : ℕ → ℕ → ℕ → Action
-kind_at n a b =
-    cond (n == 0) (Action.One Single.H a) (cond (n == 1) (Action.One (Single.Plain Plain.X) a) (cond (n == 2) (Action.One (Single.Plain Plain.Y) a)
-    (cond (n == 3) (Action.One (Single.Plain Plain.Z) a) (cond (n == 4) (Action.One (Single.Plain Plain.S) a) (cond (n == 5) (Action.One (Single.Plain Plain.T) a)
-    (cond (n == 6) (Action.Cnot a b) (Action.One Single.Read a)))))))
+kind_at n a b = slice_index_or (of_each_kind a b) n (Action.One Single.H a)
 
 kind_known : (x : Action) → kind_at (kind_place x) (first_wire x) (target_or_zero x) ≡ x
 unfolding kind_at

@@ -1,3 +1,4 @@
 pub mod Actions
 pub mod Operations
 pub mod Known
+pub mod Keys

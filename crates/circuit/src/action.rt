@@ -1,5 +1,5 @@
 // A gate on one wire that only flips it or turns its phase.
-#[derive(Clone, Copy)]
+#[derive(Clone, Copy, PartialEq, Eq, Debug)]
 pub enum Plain {
     X,
     Y,
@@ -9,7 +9,7 @@ pub enum Plain {
 }
 
 // What is done to one wire: the Hadamard gate, a plain gate, or a read.
-#[derive(Clone, Copy)]
+#[derive(Clone, Copy, PartialEq, Eq, Debug)]
 pub enum Single {
     H,
     Plain(Plain),
@@ -17,7 +17,7 @@ pub enum Single {
 }
 
 // A kind with the wires it acts on. The wires of a gate of the program are labels, those of an operation are cells. A CNOT names its control first.
-#[derive(Clone, Copy)]
+#[derive(Clone, Copy, PartialEq, Eq, Debug)]
 pub enum Action {
     One(Single, u8),
     Cnot(u8, u8),

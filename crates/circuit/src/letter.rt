@@ -3,6 +3,7 @@ ghost use Rattle.circuit.specs.Actions.{letter_of, action_of, first_wire, second
 
 use crate::action::{Action, Plain, Single};
 
+// The letters are two tables by hand, one each way: by way of `Kind` there would be a third, from kinds to actions.
 impl Action {
     // The action whose kind has the letter, or none. A kind on one wire ignores the second.
     pub fn from_letter(letter: char, first: u8, second: u8) -> Option<Action>

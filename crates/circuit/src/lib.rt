@@ -2,6 +2,7 @@
 #![tactic(auto)]
 
 pub mod action;
+mod key;
 pub mod letter;
 pub mod operation;
 pub mod order;

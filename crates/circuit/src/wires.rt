@@ -4,7 +4,7 @@ ghost use Rattle.circuit.specs.Actions.{wire_at, names as is_named, share};
 use crate::action::Action;
 
 impl Action {
-    // The wire at a place: 0 is the wire or the control, 1 the target.
+    // The wire at a place: 0 is the wire or the control, 1 the target. By hand, since an action holds no list of wires to get it from.
     pub fn wire_at(self, place: usize) -> Option<u8>
         ensures { result ≡ wire_at place self }
     {
@@ -15,7 +15,7 @@ impl Action {
         }
     }
 
-    // Whether the action names a wire.
+    // Whether the action names a wire. By hand, as below: it is a case each for one wire and two.
     pub fn names(self, wire: usize) -> bool
         ensures { result ≡ is_named self wire }
     {

@@ -1,4 +1,6 @@
 pub mod Links
-pub mod Ways
-pub mod Routed
+pub mod Windows
+pub mod Swaps
 pub mod Laying
+pub mod Routed
+pub mod There

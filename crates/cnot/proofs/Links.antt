@@ -1,5 +1,6 @@
--- The links along a path by their places. Assumes nothing.
-use Rattle.std.proofs.Common.{◌≡◌, ℕ, zero, suc, ◌+◌, ◌-◌, ◌<◌, ◌≤◌, List, [], ◌∷◌, length, get_or, sym, refl, ap, ◌∙◌, subst, arith}
+-- The links along a path, and the bounds on their times. Assumes nothing.
+use Rattle.std.proofs.Common.{◌≡◌, ℕ, suc, ◌-◌, ◌*◌, ◌≤◌, List, [], ◌∷◌, length, sum_by, refl, ap, ◌∙◌, arith}
+use Rattle.std.proofs.lemmas.List.Sums.{sum_by-cons}
 use Rattle.calibration.specs.declared.table.CalibrationTable.{CalibrationTable}
 use Rattle.calibration.specs.Tables.{table_grid, table_values}
 use Rattle.calibration.proofs.Links.{link-few}
@@ -15,17 +16,22 @@ pub length-links : (time : ℕ → ℕ → ℕ) (cs : List ℕ) → length (link
 length-links time [] = refl
 length-links time (a ∷ cs) = length_from time a cs ∙ omega arith
 
-get_or-from : (time : ℕ → ℕ → ℕ) (a : ℕ) (cs : List ℕ) (i : ℕ) (d : Link) → i < length cs → get_or (links_from time a cs) i d ≡ link time (get_or (a ∷ cs) i 0) (get_or cs i 0)
-get_or-from time a [] i d h = absurd (omega arith)
-get_or-from time a (b ∷ cs) zero d h = refl
-get_or-from time a (b ∷ cs) (suc i) d h = get_or-from time b cs i d (omega arith)
-
--- the link at place i joins the cells at i and i + 1
-pub get_or-links : (time : ℕ → ℕ → ℕ) (cs : List ℕ) (i : ℕ) (d : Link) → i + 1 < length cs → get_or (links time cs) i d ≡ link time (get_or cs i 0) (get_or cs (i + 1) 0)
-get_or-links time [] i d h = absurd (omega arith)
-get_or-links time (a ∷ cs) i d h =
-    get_or-from time a cs i d (omega arith) ∙ ap (link time (get_or (a ∷ cs) i 0)) (let e : suc i ≡ i + 1 = omega arith in ap (λ n. get_or (a ∷ cs) n 0) e)
-
 -- no link of a table takes more than 1000
-pub time-few : (t : CalibrationTable) (l : Link) (a b : ℕ) → l ≡ link (times_of t) a b → l.time ≤ 1000
-time-few t l a b e = subst (λ m. m.time ≤ 1000) (sym e) (link-few (table_grid t) (table_values t) t.ranged a b)
+pub time_few : (t : CalibrationTable) (a b : ℕ) → times_of t a b ≤ 1000
+time_few t a b = link-few (table_grid t) (table_values t) t.ranged a b
+
+-- the times of links together
+abbrev pub total : List Link → ℕ
+total ls = sum_by (λ l. l.time) ls
+
+total_from : (t : CalibrationTable) (a : ℕ) (cs : List ℕ) → total (links_from (times_of t) a cs) ≤ 1000 * length cs
+total_from t a [] = omega arith
+total_from t a (b ∷ cs) =
+    let h = total_from t b cs in
+    let f = time_few t a b in
+    let s = sum_by-cons (λ l. l.time) (link (times_of t) a b) (links_from (times_of t) b cs) in
+    omega arith
+
+pub total_few : (t : CalibrationTable) (cs : List ℕ) → total (links (times_of t) cs) ≤ 1000 * (length cs - 1)
+total_few t [] = omega arith
+total_few t (a ∷ cs) = let h = total_from t a cs in omega arith

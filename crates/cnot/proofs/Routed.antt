@@ -1,28 +1,28 @@
 -- How many steps a routed CNOT has, and how long they last. Assumes nothing.
-use Rattle.std.proofs.Common.{◌≡◌, ℕ, ◌+◌, ◌-◌, ◌*◌, ◌<◌, ◌≤◌, cond, List, [], ◌∷◌, ◌++◌, map, reverse, length, get_or, take, drop, sum_by, sum, sym, refl, ap, ◌∙◌, inl, inr, arith}
+use Rattle.std.proofs.Common.{◌≡◌, ℕ, ◌+◌, ◌-◌, ◌*◌, ◌<◌, ◌≤◌, cond, List, [], ◌∷◌, ◌++◌, map, reverse, length, take, drop, sum, sym, refl, ap, ◌∙◌, ap₂, inl, inr, arith}
 use mathlib.Core.List.{reverse-cons}
 use Rattle.std.proofs.lemmas.Bool.{cases_lt, lt-ltb, le-ltb}
 use Rattle.std.specs.List.{flat_map}
 use Rattle.std.proofs.lemmas.List.{length-append, length-reverse, length-map, length-take-le, length-drop, nil_from_length, take-map, drop-map}
 use Rattle.std.proofs.lemmas.List.Sums.{sum_by-cons, sum_by-append, sum_by_push, sum-map}
+use Rattle.std.proofs.Math.Seq.{take-append_seam, drop-append_seam}
 use Rattle.cnot.specs.declared.link.Link.{Link}
-use Rattle.cnot.specs.Links.{front, final, links, operations_along, time_over}
+use Rattle.cnot.specs.Links.{front, final, link_of, links, operations_along, time_over}
 use Rattle.cnot.specs.Steps.{lasting, cnot_over, swap_over, routed}
-use Rattle.cnot.proofs.Links.{length-links}
-use Rattle.cnot.proofs.Ways.{final_is}
+use Rattle.cnot.proofs.Links.{length-links, total}
+use Rattle.cnot.proofs.Windows.{links_last}
+use Rattle.cnot.proofs.Swaps.{length_swaps, lasting_swaps}
 
-abbrev total : List Link → ℕ
-total ls = sum_by (λ l. l.time) ls
+module _ (ls : List Link) (l : Link) where
+  front_more : front (ls ++ (l ∷ [])) ≡ ls
+  front_more = ap (λ n. take n (ls ++ (l ∷ []))) (let n = length-append ls (l ∷ []) in omega arith) ∙ take-append_seam ls (l ∷ [])
 
-pub length_swaps : (ls : List Link) → length (flat_map swap_over ls) ≡ 3 * length ls
-length_swaps [] = refl
-length_swaps (l ∷ ls) = let h = length_swaps ls in omega arith
+  final_more : final (ls ++ (l ∷ [])) ≡ l ∷ []
+  final_more = ap (λ n. drop n (ls ++ (l ∷ []))) (let n = length-append ls (l ∷ []) in omega arith) ∙ drop-append_seam ls (l ∷ [])
 
-pub lasting_swaps : (ls : List Link) → lasting (flat_map swap_over ls) ≡ 3 * total ls
-lasting_swaps [] = refl
-lasting_swaps (l ∷ ls) =
-    sum_by-append (λ s. s.length) (swap_over l) (flat_map swap_over ls)
-    ∙ (let h = lasting_swaps ls in let k = sum_by-cons (λ m. m.time) l ls in omega arith)
+  -- a CNOT over links and one more
+  pub routed_more : routed (ls ++ (l ∷ [])) ≡ flat_map swap_over ls ++ (cnot_over l ∷ flat_map swap_over (reverse ls))
+  routed_more = ap₂ (λ fs es. flat_map swap_over fs ++ (map cnot_over es ++ flat_map swap_over (reverse fs))) front_more final_more
 
 lasting_cnots : (ls : List Link) → lasting (map cnot_over ls) ≡ total ls
 lasting_cnots [] = refl
@@ -56,10 +56,10 @@ final_times : (ls : List Link) → sum (final (map (λ l. l.time) ls)) ≡ total
 final_times ls = ap (λ n. sum (drop (n - 1) (map (λ l. l.time) ls))) (length-map ls (λ l. l.time)) ∙ ap sum (drop-map (λ l. l.time) (length ls - 1) ls) ∙ sum-map (λ l. l.time) (final ls)
 
 -- six times the times of all links but the last, and the time of the last
-pub time_over_is : (ls : List Link) (l : Link) (s : ℕ) → 0 < length ls → s ≡ total (front ls) → l ≡ get_or ls (length ls - 1) l → 6 * s + l.time ≡ time_over ls
-time_over_is ls l s some e f =
-    let a = front_times ls in
-    let b = final_times ls ∙ ap total (final_is ls l some ∙ ap (λ m. m ∷ []) (sym f)) in
+pub time_over_more : (ls : List Link) (l : Link) → time_over (ls ++ (l ∷ [])) ≡ 6 * total ls + l.time
+time_over_more ls l =
+    let a = front_times (ls ++ (l ∷ [])) ∙ ap total (front_more ls l) in
+    let b = final_times (ls ++ (l ∷ [])) ∙ ap total (final_more ls l) in
     let c = sum_by-cons (λ m. m.time) l [] in
     omega arith
 
@@ -83,9 +83,22 @@ along_none n l = ap (λ t. cond t 0 (6 * (n - 2) + 1)) (lt-ltb n 2 l)
 pub along_is : (n : ℕ) → 2 ≤ n → operations_along n ≡ 6 * (n - 2) + 1
 along_is n l = ap (λ t. cond t 0 (6 * (n - 2) + 1)) (le-ltb n 2 l)
 
-pub length_along : (time : ℕ → ℕ → ℕ) (cs : List ℕ) → operations_along (length cs) ≡ length (routed (links time cs))
+pub length_along : (time : ℕ → ℕ → ℕ) (cs : List ℕ) → length (routed (links time cs)) ≡ operations_along (length cs)
 length_along time cs =
     elim (cases_lt (length cs) 2) [
-      | inl l ↦ let n = length-links time cs in along_none (length cs) l ∙ ap (λ ls. length (routed ls)) (sym (nil_from_length (links time cs) (omega arith)))
-      | inr l ↦ let n = length-links time cs in let r = length-routed (links time cs) (omega arith) in along_is (length cs) l ∙ omega arith
+      | inl l ↦ let n = length-links time cs in ap (λ ls. length (routed ls)) (nil_from_length (links time cs) (omega arith)) ∙ sym (along_none (length cs) l)
+      | inr l ↦ let n = length-links time cs in let r = length-routed (links time cs) (omega arith) in let e = along_is (length cs) l in omega arith
     ]
+
+pub along_few : (n : ℕ) → n ≤ 64 → operations_along n ≤ 373
+along_few n h =
+    elim (cases_lt n 2) [
+      | inl l ↦ let e = along_none n l in omega arith
+      | inr l ↦ let e = along_is n l in omega arith
+    ]
+
+-- six times the times of the links of all cells but the last, and the time of the last link
+pub time_over_last : (time : ℕ → ℕ → ℕ) (cs : List ℕ) → 2 ≤ length cs → time_over (links time cs) ≡ 6 * total (links time (take (length cs - 1) cs)) + (link_of time (drop (length cs - 2) cs)).time
+time_over_last time cs h = ap time_over (links_last time cs h) ∙ time_over_more (links time (take (length cs - 1) cs)) (link_of time (drop (length cs - 2) cs))
+
+pub ruleset times = (time_over_last, lasting-routed)

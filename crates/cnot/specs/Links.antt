@@ -1,5 +1,6 @@
 -- The links along a path, and how long a CNOT along it lasts. Assumes nothing.
-use Rattle.std.specs.Prelude.{ℕ, ◌+◌, ◌-◌, ◌*◌, cond, List, [], ◌∷◌, map, length, take, drop, sum, nat_lt}
+use Rattle.std.specs.Prelude.{ℕ, ◌+◌, ◌-◌, ◌*◌, cond, List, [], ◌∷◌, map, length, take, drop, sum, nat_lt, slice_index}
+use Rattle.std.specs.Borrow.{Bor}
 use Rattle.calibration.specs.declared.table.CalibrationTable.{CalibrationTable}
 use Rattle.calibration.specs.Calibrations.{link_time}
 use Rattle.calibration.specs.Tables.{table_grid, table_values}
@@ -20,6 +21,18 @@ times_of t a b = link_time (table_grid t) (table_values t) a b
 -- the link from a to b
 abbrev pub link : (ℕ → ℕ → ℕ) → ℕ → ℕ → Link
 link time a b = record { from = a; to = b; time = time a b }
+
+-- the link between two cells
+abbrev pub link_of : (ℕ → ℕ → ℕ) → List ℕ → Link
+link_of time ends = link time (slice_index ends 0) (slice_index ends 1)
+
+-- the links between the cells that are lent two and two
+unfoldable pub links_of : (ℕ → ℕ → ℕ) → List (Bor (List ℕ)) → List Link
+links_of time es = map (λ e. link_of time e.now) es
+
+-- the link from its other end
+abbrev pub reversed : Link → Link
+reversed l = record { from = l.to; to = l.from; time = l.time }
 
 -- the links from a on
 abbrev pub links_from : (ℕ → ℕ → ℕ) → ℕ → List ℕ → List Link

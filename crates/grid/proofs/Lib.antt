@@ -1,3 +1,4 @@
 pub mod Fits
 pub mod Listed
 pub mod Neighbours
+pub mod Puts

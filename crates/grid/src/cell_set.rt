@@ -2,10 +2,8 @@ ghost use Rattle.std.specs.Prelude.{◌≡◌, Decides, nat_lt};
 ghost use Rattle.grid.specs.CellSets.{no_cells, with_cell, listed_cells, CommonCell};
 ghost use Rattle.grid.specs.Members.{has};
 
-use crate::bit_set;
-
 // A set of cells below 64, a bit for each.
-#[derive(Clone, Copy)]
+#[derive(Clone, Copy, Debug, PartialEq, Eq)]
 pub struct CellSet {
     bits: u64,
 }
@@ -18,33 +16,42 @@ impl CellSet {
     }
 
     // The set of the cells of a list.
+    #[tactic(auto, using(crate::proofs::Puts::listed_more))]
     pub fn of_cells(cells: &[u8]) -> CellSet
         ensures { has result ≡ listed_cells cells.now }
     {
-        CellSet {
-            bits: bit_set::bits_of(cells),
+        let mut set = CellSet::new();
+        for cell in cells {
+            set.insert(*cell);
         }
+        set
     }
 
     // Puts the cell in; a cell from 64 on is none, and changes nothing. Answers whether the set has it.
+    #[tactic(auto, using(crate::proofs::Puts::cell_put))]
     pub fn insert(&mut self, cell: u8) -> bool
         ensures value { result ≡ nat_lt cell 64 }
         ensures after { has self.new ≡ with_cell cell (has self.old) }
     {
-        self.bits = bit_set::with_bit(self.bits, cell);
-        cell < 64
+        let is_cell = cell < 64;
+        if is_cell {
+            self.bits |= 1 << cell;
+        }
+        is_cell
     }
 
+    #[tactic(auto, using(bits::proofs::Bits::word_past))]
     pub fn contains(self, cell: u8) -> bool
         ensures { result ≡ has self cell }
     {
-        bit_set::has_bit(self.bits, cell)
+        cell < 64 && (self.bits >> cell) % 2 == 1
     }
 
     // Whether the sets have a common cell.
+    #[tactic(auto, using(bits::proofs::Bits::meets_decides))]
     pub fn meets(self, other: CellSet) -> bool
         ensures { Decides result (CommonCell (has self) (has other)) }
     {
-        bit_set::have_common_bit(self.bits, other.bits)
+        self.bits & other.bits != 0
     }
 }

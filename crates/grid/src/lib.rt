@@ -1,6 +1,5 @@
 // The grid machine: its cells by number and by place, neighbours, and sets of cells.
 #![tactic(auto)]
 
-mod bit_set;
 pub mod cell_set;
 pub mod machine;

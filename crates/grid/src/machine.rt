@@ -3,7 +3,7 @@ ghost use Rattle.std.specs.Prelude.{◌≤◌};
 mod calls;
 
 // A grid of 1 to 8 columns and 1 to 8 rows. Its cells are numbered row by row, from 0.
-#[derive(Clone, Copy)]
+#[derive(Clone, Copy, Debug, PartialEq, Eq)]
 pub struct Machine {
     columns: u8,
     rows: u8,

@@ -1,2 +1,3 @@
-pub mod Parts
+pub mod Firsts
 pub mod Spans
+pub mod Parts

@@ -1,18 +1,18 @@
 // The spans of all gates, and the constraints on them.
-ghost use Rattle.std.specs.Prelude.{◌≡◌, ℕ, ◌≤◌, true, length, None};
+ghost use Rattle.std.specs.Prelude.{◌≡◌, ◌≤◌, length, None};
 ghost use Rattle.refusal.specs.Refusals.{ok_unless};
-ghost use Rattle.plan.specs.Plans.{plan_of};
 ghost use Rattle.plan.specs.Verdicts.{latest_end};
+ghost use Rattle.spans.specs.Layouts.{layout_plan};
 ghost use Rattle.judge.specs.Judging.{SpansOf, unoffered, last_three};
 
-use calibration::table::CalibrationTable;
 use circuit::action::Action;
 use grid::cell_set::CellSet;
 use plan::gate::Gate;
 use refusal::Refusal;
 use route::rule::RouteRule;
 use schedule::check_schedule;
-use spans::span::{Span, span_of};
+use spans::layout::Layout;
+use spans::span::Span;
 
 // What stands in a place before a span is written there.
 fn no_span() -> Span {
@@ -24,34 +24,28 @@ fn no_span() -> Span {
     }
 }
 
-// Writes the span of each gate.
-fn write_spans<R: RouteRule>(
-    rule: &R,
-    table: &CalibrationTable,
-    homes: &[Option<u8>],
-    gates: &[Gate],
-    out: &mut [Span],
-)
+// Writes the span of each gate. By index: after a loop over `out.iter_mut().zip(gates)` no proof knows what `out` holds.
+fn write_spans<R: RouteRule>(rule: &R, layout: &Layout, gates: &[Gate], out: &mut [Span])
     requires { length gates.now ≤ length out.old }
-    ensures { SpansOf (plan_of table.now homes.now gates.now) (R.RouteRule.route rule.now) (length gates.now) out.new }
+    ensures { SpansOf (layout_plan layout.now gates.now) (R.RouteRule.route rule.now) (length gates.now) out.new }
 {
-    for i in 0..gates.len() {
-        out[i] = span_of(rule, table, homes, gates[i]);
+    for (i, gate) in gates.iter().enumerate() {
+        out[i] = layout.span(rule, *gate);
     }
 }
 
 // The latest end, or the first of the constraints on spans that is broken, where every choice is offered.
 pub(super) fn check_spans<R: RouteRule>(
     rule: &R,
-    table: &CalibrationTable,
-    homes: &[Option<u8>],
+    layout: &Layout,
     gates: &[Gate],
 ) -> Result<u64, Refusal>
     requires few { length gates.now ≤ 256 }
     requires offered { unoffered (R.RouteRule.route rule.now).choices gates.now ≡ None }
-    ensures { result ≡ ok_unless (last_three (plan_of table.now homes.now gates.now) (R.RouteRule.route rule.now)) (latest_end (plan_of table.now homes.now gates.now) (R.RouteRule.route rule.now)) }
+    ensures { result ≡ ok_unless (last_three (layout_plan layout.now gates.now) (R.RouteRule.route rule.now)) (latest_end (layout_plan layout.now gates.now) (R.RouteRule.route rule.now)) }
 {
+    // An array of the greatest length, with the number of gates beside it: memory is fixed, and judging allocates nothing.
     let mut spans = [no_span(); 256];
-    write_spans(rule, table, homes, gates, &mut spans);
-    check_schedule(table, homes, &spans[0..gates.len()])
+    write_spans(rule, layout, gates, &mut spans);
+    check_schedule(layout, &spans[..gates.len()])
 }

@@ -1,5 +1,5 @@
 -- What `cmp` answers under a total order. Assumes nothing.
-use Rattle.std.proofs.Common.{◌≡◌, Bool, true, false, cond, Decides, Less, Equal, Greater, sym, refl, ap, ◌∙◌, subst, ap₂}
+use Rattle.std.proofs.Common.{◌≡◌, Bool, true, false, cond, Decides, Ordering, Less, Equal, Greater, sym, refl, ap, ◌∙◌, subst, ap₂}
 use Rattle.std.specs.Ordering.{is_eq, is_lt, ordering_reverse}
 use Rattle.std.specs.Cmp.{IsTotalOrder}
 use Rattle.std.proofs.lemmas.Bool.{false≢true}
@@ -31,6 +31,10 @@ less_is before x y = go (before x y) (before y x)
     go true b = refl
     go false true = refl
     go false false = refl
+
+-- the same of a `cmp` that answers by the order
+pub less_by : {X : Type 0} (before : X → X → Bool) (cmp : X → X → Ordering) → ((x y : X) (r : Ordering) → r ≡ cmp x y → r ≡ compared before x y) → (x y : X) → is_lt (cmp x y) ≡ before x y
+less_by before cmp h x y = ap is_lt (h x y (cmp x y) refl) ∙ less_is before x y
 
 -- `cmp` under a total order is a total order in the words of the library
 pub compared_total : {X : Type 0} {before : X → X → Bool} → TotalOrder before → IsTotalOrder (compared before)

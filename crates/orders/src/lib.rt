@@ -17,16 +17,9 @@ pub trait Ranked: Copy + Ord {
     ghost answers: { (x y : Self) (r : Ordering) → (r ≡ Self.Ord.cmp x y) → r ≡ compared before x y };
 }
 
-// The answer of `cmp`, told by the order.
-fn is_less<T: Ranked>(x: T, y: T) -> bool
-    ensures { result ≡ T.Ranked.before x y }
-{
-    x.cmp(&y).is_lt()
-}
-
 // Whether the first comes before the second.
 pub fn comes_before<T: Ranked>(x: &T, y: &T) -> bool
     ensures { result ≡ T.Ranked.before x.now y.now }
 {
-    is_less(*x, *y)
+    x.cmp(y).is_lt()
 }

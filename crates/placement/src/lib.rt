@@ -2,6 +2,7 @@
 #![tactic(auto)]
 
 pub mod home;
+pub mod homes;
 pub mod missing;
 pub mod shared;
 
@@ -10,16 +11,16 @@ ghost use Rattle.refusal.specs.Refusals.{ok_unless};
 ghost use Rattle.grid.specs.Grids.{grid_of};
 ghost use Rattle.placement.specs.Placements.{homes_broken};
 
-use crate::missing::check_missing;
-use crate::shared::check_shared;
-use grid::machine::Machine;
+use crate::homes::Homes;
 use plan::gate::Gate;
 use refusal::Refusal;
 
-// Whether every label that a gate uses has a home and no two labels have the same; otherwise the first constraint that is broken, at its lowest places.
-pub fn check_homes(machine: Machine, homes: &[Option<u8>], gates: &[Gate]) -> Result<(), Refusal>
-    ensures { result ≡ ok_unless (homes_broken (grid_of machine) homes.now gates.now) tt }
-{
-    check_missing(machine, homes, gates)?;
-    check_shared(machine, homes)
+impl Homes<'_> {
+    // Whether every label that a gate uses has a home and no two labels have the same; otherwise the first constraint that is broken, at its lowest places.
+    pub fn check(&self, gates: &[Gate]) -> Result<(), Refusal>
+        ensures { result ≡ ok_unless (homes_broken (grid_of self.now.machine) self.now.cells.now gates.now) tt }
+    {
+        self.check_missing(gates)?;
+        self.check_shared()
+    }
 }

@@ -1,31 +1,22 @@
 // The first constraint: a label that a gate uses has a home.
-ghost use Rattle.std.specs.Prelude.{is_none, ◌≡◌, ℕ, ◌<◌, false, ◌&&◌, length};
-ghost use Rattle.orders.specs.Lists.{any};
-ghost use Rattle.search.specs.Searches.{highest, scan_pairs};
+ghost use Rattle.std.specs.Prelude.{◌≡◌};
+ghost use Rattle.std.specs.Option.{option_map};
 ghost use Rattle.refusal.specs.Refusals.{ok_unless};
 ghost use Rattle.grid.specs.Grids.{grid_of};
-ghost use Rattle.plan.specs.Plans.{home_among, no_gate};
 ghost use Rattle.plan.specs.Verdicts.{past_labels};
 ghost use Rattle.placement.specs.Placements.{uses, label_bound, missing_at, missing};
 
-use crate::home::home_of;
+use crate::homes::Homes;
 use circuit::action::Action;
 use circuit::wires::*;
-use grid::machine::Machine;
 use plan::gate::Gate;
 use refusal::Refusal;
-use search::{PairTest, first_failure};
 
 // Whether a gate uses a label.
 fn is_used(gates: &[Gate], label: usize) -> bool
     ensures { result ≡ uses gates.now label }
 {
-    for i in 0..gates.len() {
-        if gates[i].action.names(label) {
-            return true;
-        }
-    }
-    false
+    gates.iter().any(|gate| gate.action.names(label))
 }
 
 // One more than the greatest label of an action.
@@ -42,63 +33,36 @@ fn past_labels(action: Action) -> usize
 fn bound_of_labels(gates: &[Gate]) -> usize
     ensures { result ≡ label_bound gates.now }
 {
-    let mut bound: usize = 0;
-    for i in 0..gates.len() {
-        bound = bound.max(past_labels(gates[i].action));
-    }
-    bound
+    gates
+        .iter()
+        .map(|gate| past_labels(gate.action))
+        .max()
+        .unwrap_or(0)
 }
 
-// Whether a label is used and has no home.
-#[derive(Drop)]
-struct Missing<'h, 'g> {
-    machine: Machine,
-    homes: &'h [Option<u8>],
-    gates: &'g [Gate],
-    labels: usize,
-}
-
-impl PairTest for Missing<'_, '_> {
-    ghost firsts = { λ t. t.labels };
-
-    ghost seconds = { λ t. 1 };
-
-    ghost ordered = { false };
-
-    ghost failing = { λ t l j. missing_at (grid_of t.machine) t.homes.now t.gates.now l };
-
-    fn bounds(&self) -> (usize, usize) {
-        (self.labels, 1)
+impl Homes<'_> {
+    // Whether the label is used and has no home.
+    fn is_missing(&self, gates: &[Gate], label: usize) -> bool
+        ensures { result ≡ missing_at (grid_of self.now.machine) self.now.cells.now gates.now label }
+    {
+        self.home(label).is_none() && is_used(gates, label)
     }
 
-    fn is_ordered(&self) -> bool {
-        false
+    // The lowest label that is used and has no home.
+    fn lowest_missing(&self, gates: &[Gate]) -> Option<usize>
+        ensures { option_map Refusal.NoHome result ≡ missing (grid_of self.now.machine) self.now.cells.now gates.now }
+    {
+        (0..bound_of_labels(gates)).find(|label| self.is_missing(gates, *label))
     }
 
-    fn fails(&self, label: usize, _: usize) -> bool {
-        match home_of(self.machine, self.homes, label) {
-            None => is_used(self.gates, label),
-            Some(_) => false,
+    // Refuses the lowest label that is used and has no home.
+    pub(super) fn check_missing(&self, gates: &[Gate]) -> Result<(), Refusal>
+        ensures { result ≡ ok_unless (missing (grid_of self.now.machine) self.now.cells.now gates.now) tt }
+    {
+        // A match: `map_or(Ok(()), ..)` would hide what is answered where nothing is found.
+        match self.lowest_missing(gates) {
+            Some(label) => Err(Refusal::NoHome(label)),
+            None => Ok(()),
         }
-    }
-}
-
-// Refuses the lowest label that is used and has no home.
-pub(super) fn check_missing(
-    machine: Machine,
-    homes: &[Option<u8>],
-    gates: &[Gate],
-) -> Result<(), Refusal>
-    ensures { result ≡ ok_unless (missing (grid_of machine) homes.now gates.now) tt }
-{
-    let labels = bound_of_labels(gates);
-    match first_failure(&Missing {
-        machine,
-        homes,
-        gates,
-        labels,
-    }) {
-        Some((label, _)) => Err(Refusal::NoHome(label)),
-        None => Ok(()),
     }
 }

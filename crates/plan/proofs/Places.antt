@@ -1,6 +1,6 @@
 -- A broken constraint and the places at which its test is made. Assumes nothing.
-use Rattle.std.proofs.Common.{◌≡◌, ℕ, zero, suc, ◌<◌, ◌≤◌, Bool, true, false, cond, eqb, Some, sym, refl, ap, ◌∙◌, subst, inl, inr, arith}
-use Rattle.std.proofs.lemmas.Bool.{eq-eqb, eqb-true, eqb-false}
+use Rattle.std.proofs.Common.{◌≡◌, ℕ, ◌<◌, ◌≤◌, Bool, true, false, cond, eqb, Some, sym, refl, ap, ◌∙◌, subst, rules}
+use Rattle.std.proofs.lemmas.Bool.{eqb-true}
 use Rattle.orders.specs.Lists.{In}
 use Rattle.refusal.specs.declared.Refusal.{Refusal}
 use Rattle.refusal.specs.Refusals.{shown, number}
@@ -9,7 +9,7 @@ use Rattle.circuit.specs.Actions.{wires, wire_at, first_wire}
 use Rattle.route.specs.Routes.{Route}
 use Rattle.plan.specs.Plans.{Plan, gate_count, action_at, labels_at, home, values_of}
 use Rattle.plan.specs.Durations.{end_at}
-use Rattle.plan.specs.Constraints.{Broken, seat, test_place}
+use Rattle.plan.specs.Constraints.{Broken, test_place}
 use Rattle.plan.specs.Verdicts.{Constraint, no_home, one_home, no_timing, no_choice, too_early, overlap, too_late, home_or, naming}
 use Rattle.plan.proofs.Tests.{At}
 
@@ -24,11 +24,7 @@ order overlap = 26
 order too_late = 27
 
 wire_in : (q l : ℕ) (x : Action) → wire_at q x ≡ Some l → In l (wires x)
-wire_in zero l (Action.One k a) e = inl cc
-wire_in zero l (Action.Cnot a b) e = inl cc
-wire_in (suc zero) l (Action.One k a) e = let z : ◌≡◌ {A = ℕ} 0 1 = cc in absurd (omega arith)
-wire_in (suc zero) l (Action.Cnot a b) e = inr (inl cc)
-wire_in (suc (suc q)) l x e = let z : ◌≡◌ {A = ℕ} 0 1 = cc in absurd (omega arith)
+wire_in q l x e = search rules
 
 module _ (p : Plan) (R : Route) where
   -- what the tests find is broken
@@ -44,43 +40,14 @@ module _ (p : Plan) (R : Route) where
       (h, (l, wire_in q l (action_at p g) i, e), subst (λ c. (values_of p c).window < end_at p R g) e w)
 
   pub naming-number : (c : Constraint) (i j : ℕ) → number (naming p R c (i, j)) ≡ order c
-  naming-number no_home i j = refl
-  naming-number one_home i j = refl
-  naming-number no_timing i j = refl
-  naming-number no_choice i j = refl
-  naming-number too_early i j = refl
-  naming-number overlap i j = refl
-  naming-number too_late i j = refl
+  naming-number c i j = search rules
 
   pub naming-first : (c : Constraint) (i j : ℕ) → (shown (naming p R c (i, j))).first ≡ i
-  naming-first no_home i j = refl
-  naming-first one_home i j = refl
-  naming-first no_timing i j = refl
-  naming-first no_choice i j = refl
-  naming-first too_early i j = refl
-  naming-first overlap i j = refl
-  naming-first too_late i j = refl
-
-  seat-first : (x : Action) → cond (eqb (home_or p (wire_at 0 x)) (home p (first_wire x))) 0 1 ≤ 0
-  seat-first x = subst (λ t. cond t 0 1 ≤ 0) (sym (eq-eqb (home p (first_wire x)) (home p (first_wire x)) refl)) (omega arith)
-
-  at_most_one : (t : Bool) → cond t 0 1 ≤ 1
-  at_most_one true = omega arith
-  at_most_one false = omega arith
-
-  seat_below : (g q : ℕ) → seat p R g (home_or p (wire_at q (action_at p g))) ≤ q
-  seat_below g zero = seat-first (action_at p g)
-  seat_below g (suc q) = let h = at_most_one (eqb (home_or p (wire_at (suc q) (action_at p g))) (home p (first_wire (action_at p g)))) in omega arith
+  naming-first c i j = search rules
 
   -- a refusal's place in the order of tests is not above that at which it was found
   pub naming-place : (c : Constraint) (i j : ℕ) → At p R c i j → test_place p R (naming p R c (i, j)) ≤ j
-  naming-place no_home i j a = omega arith
-  naming-place one_home i j a = omega arith
-  naming-place no_timing i j a = omega arith
-  naming-place no_choice i j a = omega arith
-  naming-place too_early i j a = omega arith
-  naming-place overlap i j a = omega arith
-  naming-place too_late g q a = seat_below g q
+  naming-place c i j a = search rules
 
   -- where the test of a broken constraint fails
   pub record Located (q : Refusal) : Type 0 where
@@ -92,11 +59,7 @@ module _ (p : Plan) (R : Route) where
     pub place : test_place p R q ≡ two
 
   second_late : (x : Action) (l c : ℕ) → In l (wires x) → home p l ≡ c → eqb c (home p (first_wire x)) ≡ false → wire_at 1 x ≡ Some l
-  second_late (Action.One k a) l c (inl e) h f = absurd (eqb-false c (home p a) f (sym h ∙ ap (home p) e))
-  second_late (Action.One k a) l c (inr e) h f = absurd e
-  second_late (Action.Cnot a b) l c (inl e) h f = absurd (eqb-false c (home p a) f (sym h ∙ ap (home p) e))
-  second_late (Action.Cnot a b) l c (inr (inl e)) h f = ap Some (sym e)
-  second_late (Action.Cnot a b) l c (inr (inr e)) h f = absurd e
+  second_late x l c i h f = search rules
 
   late_located : (g c l : ℕ) → g < gate_count p → In l (labels_at p g) → home p l ≡ c → (values_of p c).window < end_at p R g → (t : Bool) → eqb c (home p (first_wire (action_at p g))) ≡ t → Located (Refusal.PastWindow g c)
   late_located g c l h i e w true f =

@@ -1,5 +1,5 @@
 -- Each constraint is broken exactly where its test fails. Assumes nothing.
-use Rattle.std.proofs.Common.{is_none, ◌≡◌, ℕ, zero, suc, ◌<◌, true, ◌&&◌, ◌||◌, eqb, ltb, List, [], ◌∷◌, Some, None, Option, sym, refl, ap, ◌∙◌, subst, ap₂, inl, inr, arith}
+use Rattle.std.proofs.Common.{is_none, ◌≡◌, ℕ, ◌<◌, true, ◌&&◌, ◌||◌, eqb, ltb, List, [], ◌∷◌, Some, None, Option, refl, ap, ◌∙◌, subst, inl, inr, arith, rules}
 use Rattle.std.proofs.lemmas.Bool.{and_parts, and_from, lt-ltb, ltb-true, eq-eqb, eqb-true, both_ways, cases_Bool, or_cases, not-true, not_from_false, false≢true}
 use Rattle.orders.specs.Lists.{In, Common, any}
 use Rattle.orders.proofs.Lists.{any-has, any-from}
@@ -15,8 +15,7 @@ use Rattle.plan.specs.Constraints.{Offered, Broken}
 use Rattle.plan.specs.Verdicts.{Constraint, no_home, one_home, no_timing, no_choice, too_early, overlap, too_late, same_home, is_offered, past_labels, late_at, fails, firsts, seconds}
 
 is_none_true : {X : Type 0} (o : Option X) → is_none o ≡ true → o ≡ None
-is_none_true None e = refl
-is_none_true (Some x) e = absurd (false≢true e)
+is_none_true o e = search rules
 
 any_in : (l : ℕ) (ms : List ℕ) → any (eqb l) ms ≡ true → In l ms
 any_in l [] e = absurd (false≢true e)
@@ -39,32 +38,22 @@ any_common (x ∷ xs) ys e =
     elim (or_cases (any (eqb x) ys) (any (λ l. any (eqb l) ys) xs) e) [ inl t ↦ (x, inl refl, any_in x ys t) | inr h ↦ let c = any_common xs ys h in (c.0, inr c.1, c.2) ]
 
 place_below : (q l : ℕ) (x : Action) → wire_at q x ≡ Some l → q < 2
-place_below zero l x e = omega arith
-place_below (suc zero) l x e = omega arith
-place_below (suc (suc q)) l x e = let z : ◌≡◌ {A = ℕ} 0 1 = cc in absurd (omega arith)
+place_below q l x e = search rules
 
 label_past : (l : ℕ) (x : Action) → In l (wires x) → l < past_labels x
-label_past l (Action.One k a) (inl e) = omega arith
-label_past l (Action.One k a) (inr h) = absurd h
-label_past l (Action.Cnot a b) (inl e) = omega arith
-label_past l (Action.Cnot a b) (inr (inl e)) = omega arith
-label_past l (Action.Cnot a b) (inr (inr h)) = absurd h
+label_past l x h = search rules
 
 pub offered_from : (R : Route) (x : Action) (c : ℕ) → is_offered R.choices x c ≡ true → Offered R x c
-offered_from R (Action.One k l) c e = eqb-true c 0 e
-offered_from R (Action.Cnot l m) c e = ltb-true c R.choices e
+offered_from R x c e = search rules
 
 pub from_offered : (R : Route) (x : Action) (c : ℕ) → Offered R x c → is_offered R.choices x c ≡ true
-from_offered R (Action.One k l) c e = eq-eqb c 0 e
-from_offered R (Action.Cnot l m) c e = lt-ltb c R.choices e
+from_offered R x c o = search rules
 
 same_home-has : (o q : Option ℕ) → same_home o q ≡ true → (c : ℕ) × (o ≡ Some c) × (q ≡ Some c)
-same_home-has None q e = absurd (false≢true e)
-same_home-has (Some c) None e = absurd (false≢true e)
-same_home-has (Some c) (Some d) e = (c, refl, ap Some (sym (eqb-true c d e)))
+same_home-has o q e = search rules
 
 has-same_home : (o q : Option ℕ) (c : ℕ) → o ≡ Some c → q ≡ Some c → same_home o q ≡ true
-has-same_home o q c e f = ap₂ same_home e f ∙ eq-eqb c c refl
+has-same_home o q c e f = search rules
 
 module _ (p : Plan) (R : Route) where
   late-has : (e : ℕ) (o : Option ℕ) → late_at p e o ≡ true → (l : ℕ) × (o ≡ Some l) × (window p l < e)

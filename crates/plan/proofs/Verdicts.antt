@@ -1,7 +1,7 @@
 -- A plan passes exactly when it breaks no constraint; else the first broken one is named. Assumes nothing.
-use Rattle.std.proofs.Common.{◌≡◌, ℕ, ◌+◌, ◌<◌, ◌≤◌, true, cond, eqb, ◌⊎◌, List, [], ◌∷◌, is_ok, Some, None, Ok, Err, Option, sym, refl, ap, ◌∙◌, subst, inl, inr, arith}
+use Rattle.std.proofs.Common.{◌≡◌, ℕ, ◌+◌, ◌<◌, ◌≤◌, true, ◌⊎◌, List, [], ◌∷◌, is_ok, Some, None, Ok, Err, Option, sym, refl, ap, ◌∙◌, subst, inl, inr, arith, rules}
 use Rattle.std.specs.Option.{option_map}
-use Rattle.std.proofs.lemmas.Bool.{both_ways, cases_order}
+use Rattle.std.proofs.lemmas.Bool.{both_ways}
 use Rattle.search.specs.Searches.{scan_pairs, Earlier, Scanned}
 use Rattle.search.proofs.Searches.{scanned, highest-bound, highest-met}
 use Rattle.refusal.specs.declared.Refusal.{Refusal}
@@ -14,31 +14,12 @@ use Rattle.plan.specs.Verdicts.{Constraint, no_home, one_home, no_timing, no_cho
 use Rattle.plan.proofs.Tests.{At, sound, whole}
 use Rattle.plan.proofs.Places.{order, naming-broken, naming-number, naming-first, naming-place, Located, located}
 
--- a constraint by its place
-of_order : ℕ → Constraint
-of_order n = cond (eqb n 21) no_home (cond (eqb n 22) one_home (cond (eqb n 23) no_timing (cond (eqb n 24) no_choice (cond (eqb n 25) too_early (cond (eqb n 26) overlap too_late)))))
-
-ordered : (c : Constraint) → of_order (order c) ≡ c
-unfolding of_order
-ordered no_home = refl
-ordered one_home = refl
-ordered no_timing = refl
-ordered no_choice = refl
-ordered too_early = refl
-ordered overlap = refl
-ordered too_late = refl
-
+-- a constraint is known by its place
 same-order : (c d : Constraint) → order d ≡ order c → c ≡ d
-same-order c d e = sym (ordered c) ∙ ap of_order (sym e) ∙ ordered d
+same-order c d e = grind arith
 
 order_from : (c : Constraint) → (21 ≤ order c) × (order c < 28)
-order_from no_home = (omega arith, omega arith)
-order_from one_home = (omega arith, omega arith)
-order_from no_timing = (omega arith, omega arith)
-order_from no_choice = (omega arith, omega arith)
-order_from too_early = (omega arith, omega arith)
-order_from overlap = (omega arith, omega arith)
-order_from too_late = (omega arith, omega arith)
+order_from c = search rules
 
 -- c at (i, j) is tested before d at (k, l)
 abbrev TestedBefore : Constraint → ℕ → ℕ → Constraint → ℕ → ℕ → Type 0
@@ -65,7 +46,7 @@ module _ (p : Plan) (R : Route) where
 
   -- d is c, or comes later
   split : (c d : Constraint) → order c ≤ order d → (c ≡ d) ⊎ (order c + 1 ≤ order d)
-  split c d h = elim (cases_order (order c) (order d)) [ inl e ↦ inl (same-order c d (sym e)) | inr o ↦ elim o [ inl s ↦ inr (omega arith) | inr s ↦ absurd (omega arith) ] ]
+  split c d h = search rules
 
   past : (c : Constraint) (o : Option Refusal) → ((i j : ℕ) → At p R c i j → ⊥) → TellsFrom (order c + 1) o → TellsFrom (order c) o
   past c None n t = λ d i j h k. elim (split c d h) [ inl e ↦ n i j (subst (λ x. At p R x i j) (sym e) k) | inr l ↦ t d i j l k ]
@@ -118,12 +99,10 @@ module _ (p : Plan) (R : Route) where
   broken-none e r h = let l = located p R r h in none-tells e l.which l.one l.two l.at
 
   ok_is : (o : Option Refusal) (e : ℕ) → ok_unless o (latest_end p R) ≡ Ok e → (o ≡ None) × (e ≡ latest_end p R)
-  ok_is None e h = (refl, cc)
-  ok_is (Some r) e h = let z : ◌≡◌ {A = ℕ} 0 1 = cc in absurd (omega arith)
+  ok_is o e h = search rules
 
   err_is : (o : Option Refusal) (r : Refusal) → ok_unless o (latest_end p R) ≡ Err r → o ≡ Some r
-  err_is None r h = let z : ◌≡◌ {A = ℕ} 0 1 = cc in absurd (omega arith)
-  err_is (Some q) r h = cc
+  err_is o r h = search rules
 
   must : (o : Option Refusal) → TellsFrom 21 o → BreaksNone p R → is_ok (ok_unless o (latest_end p R)) ≡ true
   must None t n = refl

@@ -1,5 +1,5 @@
 -- A plan by its parts, and what is read off them. Assumes nothing.
-use Rattle.std.specs.Prelude.{ℕ, Bool, true, false, cond, List, length, Some, None, Option, nat_lt, slice_index_or, slice_set}
+use Rattle.std.specs.Prelude.{ℕ, cond, List, length, Some, None, Option, nat_lt, slice_index_or, slice_set}
 use Rattle.std.specs.Option.{unwrap_or}
 use Rattle.circuit.specs.declared.action.Single.{Single}
 use Rattle.circuit.specs.declared.action.Action.{Action}

@@ -5,7 +5,7 @@ ghost use Rattle.std.specs.Cmp.{ranks};
 ghost use Rattle.orders.proofs.Keys.{last-compared, more-compared};
 ghost use Rattle.std.specs.Ordering.{nat_cmp};
 
-use crate::gate::{AgendaEntry, *};
+use crate::gate::AgendaEntry;
 use orders::Ranked;
 
 impl Ranked for AgendaEntry {

@@ -1,5 +1,5 @@
 -- What a queue holds, in the order in which it leaves. Assumes nothing.
-use Rattle.std.specs.Prelude.{◌≡◌, ℕ, ◌<◌, Bool, true, false, List, [], ◌∷◌, length, take, drop, Some, None, Option, slice_index_or}
+use Rattle.std.specs.Prelude.{◌≡◌, ℕ, ◌<◌, Bool, false, List, [], ◌∷◌, length, take, drop, Some, None, Option, slice_index_or}
 use Rattle.orders.specs.Sorting.{sorted}
 use Rattle.queue.specs.declared.Queue.{Queue}
 
@@ -36,7 +36,7 @@ abbrev pub others : {X : Type 0} → List X → List X
 others [] = []
 others (x ∷ xs) = xs
 
--- of the first n of xs the one at b comes first, and stands before any that ties with it
-pub record Leads {X : Type 0} (before : X → X → Bool) (xs : List X) (b n : ℕ) : Type 0 where
-  pub earlier : (k : ℕ) (d : X) → k < b → before (slice_index_or xs b d) (slice_index_or xs k d) ≡ true
-  pub later : (k : ℕ) (d : X) → b < k → k < n → before (slice_index_or xs k d) (slice_index_or xs b d) ≡ false
+-- no element of xs comes before the one at i
+pub record Least {X : Type 0} (before : X → X → Bool) (xs : List X) (i : ℕ) : Type 0 where
+  pub within : i < length xs
+  pub first : (k : ℕ) (d : X) → k < length xs → before (slice_index_or xs k d) (slice_index_or xs i d) ≡ false

@@ -5,9 +5,9 @@ ghost use Rattle.orders.specs.Sorting.{put_in, Sorted};
 ghost use Rattle.queue.specs.Held.{count, room, waiting, held, first, others, Lent};
 
 use crate::Queue;
-use crate::steps::order;
 use orders::Ranked;
 use refusal::Refusal;
+use sorting::sort;
 
 impl<'a, T: Ranked> Queue<'a, T> {
     // An empty queue in the places given.
@@ -27,6 +27,7 @@ impl<'a, T: Ranked> Queue<'a, T> {
     }
 
     // One more joins, or is refused where every place is taken.
+    #[tactic(auto, using(crate::proofs::Leaving::joined))]
     pub fn push(&mut self, x: T) -> Result<(), Refusal>
         ensures answer { result ≡ ok_unless (refuse_if (nat_le (room self.old) (count self.old)) Refusal.TooFewPlaces) tt }
         ensures joins { held T.Ranked.before self.new ≡ (if is_ok result then put_in T.Ranked.before x (held T.Ranked.before self.old) else held T.Ranked.before self.old) }
@@ -37,7 +38,8 @@ impl<'a, T: Ranked> Queue<'a, T> {
         if self.len >= self.places.len() {
             return Err(Refusal::TooFewPlaces);
         }
-        self.put(x);
+        self.places[self.len] = x;
+        self.len += 1;
         Ok(())
     }
 
@@ -48,10 +50,7 @@ impl<'a, T: Ranked> Queue<'a, T> {
         ensures counted { count self.new ≡ count self.old - 1 }
         ensures lent { Lent (count self.old) self.old self.new }
     {
-        if self.is_empty() {
-            return None;
-        }
-        let at = self.least();
+        let at = self.least()?;
         Some(self.take(at))
     }
 
@@ -62,7 +61,7 @@ impl<'a, T: Ranked> Queue<'a, T> {
         ensures one { Sorted T.Ranked.before (waiting self.entry) (held T.Ranked.before self.entry) }
     {
         let Queue { places, len } = self;
-        order(places, len);
+        sort(&mut places[..len]);
         len
     }
 }

@@ -7,6 +7,7 @@ mod calls;
 mod steps;
 
 // The first `len` places hold what waits, in the order in which it came.
+// A slice and its length, since a queue takes no memory of its own: the caller lends the places.
 #[derive(Drop)]
 pub struct Queue<'a, T> {
     places: &'a mut [T],

@@ -8,7 +8,7 @@ ghost use Rattle.std.specs.Prelude.{◌≡◌};
 ghost use Rattle.refusal.specs.Refusals.{shown as shown_of, shown_as};
 
 // Why a call is refused, with the places that it names.
-#[derive(Clone, Copy)]
+#[derive(Clone, Copy, PartialEq, Eq, Debug)]
 pub enum Refusal {
     // Columns or rows out of range.
     MachineSize,
@@ -64,14 +64,15 @@ pub enum Refusal {
     NoMemory,
 }
 
-// A refusal as it is shown: its number and two places, 0 where it names none.
-#[derive(Clone, Copy)]
+// A refusal as it is shown: its number and two places, 0 where it names none, since its text has two.
+#[derive(Clone, Copy, PartialEq, Eq, Debug)]
 pub struct Shown {
     pub number: u32,
     pub first: usize,
     pub second: usize,
 }
 
+// A row of the table in `Refusal::shown`, on one line.
 fn shown_as(number: u32, first: usize, second: usize) -> Shown
     ensures { result ≡ shown_as number first second }
 {
@@ -83,7 +84,7 @@ fn shown_as(number: u32, first: usize, second: usize) -> Shown
 }
 
 impl Refusal {
-    // The refusal's number and places.
+    // The refusal's number and places. A table by hand, since the numbers have gaps and a variant with places can't be cast to one.
     pub fn shown(self) -> Shown
         ensures { result ≡ shown_of self }
     {

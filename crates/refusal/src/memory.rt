@@ -1,4 +1,4 @@
-// Want of memory as a refusal, for `?` after what allocates.
+// Want of memory as a refusal, for `?` after what allocates. Two conversions, since the library has two such errors, and by hand, since a derive states no `from_gives`.
 ghost use Rattle.std.specs.Prelude.{◌≡◌};
 ghost use Rattle.refusal.specs.declared.Refusal.TheVariants.{NoMemory};
 

@@ -1,6 +1,6 @@
 -- One operation more of a list. Assumes nothing.
-use Rattle.std.proofs.Common.{◌≡◌, ℕ, zero, suc, ◌+◌, ◌<◌, ◌≤◌, Bool, true, false, cond, List, [], ◌∷◌, ◌++◌, length, get_or, take, drop, Some, None, sym, refl, ap, ◌∙◌, add-one, arith, take-append-drop, drop-cons}
-use Rattle.std.proofs.lemmas.List.{take_more}
+use Rattle.std.proofs.Common.{◌≡◌, ℕ, ◌+◌, ◌<◌, ◌≤◌, Bool, cond, List, [], ◌∷◌, ◌++◌, length, get_or, take, drop, Some, None, sym, ap, ◌∙◌, add-one, arith, take-append-drop, drop-cons, rules}
+use Rattle.std.proofs.lemmas.List.{take_more, at_drop_all}
 use Rattle.circuit.specs.declared.operation.Operation.{Operation}
 use Rattle.refusal.specs.declared.Refusal.{Refusal}
 use Rattle.circuit.specs.Actions.{is_h, is_read}
@@ -12,14 +12,8 @@ pub at_first-next : {X : Type 0} (names : ℕ → Refusal) (test : X → Bool) (
     → at_first names test i (drop i xs) ≡ cond (test (get_or xs i d)) (Some (names i)) (at_first names test (i + 1) (drop (i + 1) xs))
 at_first-next names test xs i d h = ap (at_first names test i) (drop-cons xs i d h) ∙ ap (λ n. cond (test (get_or xs i d)) (Some (names i)) (at_first names test (i + 1) (drop n xs))) (sym (add-one i))
 
-drop_all : {X : Type 0} (xs : List X) (i : ℕ) → length xs ≤ i → drop i xs ≡ []
-drop_all [] zero h = refl
-drop_all [] (suc i) h = refl
-drop_all (x ∷ xs) zero h = absurd (omega arith)
-drop_all (x ∷ xs) (suc i) h = drop_all xs i (omega arith)
-
 pub at_first-end : {X : Type 0} (names : ℕ → Refusal) (test : X → Bool) (xs : List X) (i : ℕ) → length xs ≤ i → at_first names test i (drop i xs) ≡ None
-at_first-end names test xs i h = ap (at_first names test i) (drop_all xs i h)
+at_first-end names test xs i h = at_drop_all (at_first names test i) xs i h
 
 h_append : (xs ys : List Operation) → h_count (xs ++ ys) ≡ h_count xs + h_count ys
 h_append [] ys = omega arith
@@ -42,5 +36,4 @@ pub reads_front : (xs : List Operation) (i : ℕ) → read_count (take i xs) ≤
 reads_front xs i = let e = ap read_count (take-append-drop i xs) in let k = reads_append (take i xs) (drop i xs) in omega arith
 
 pub one_at_most : (b : Bool) → one_if b ≤ 1
-one_at_most true = omega arith
-one_at_most false = omega arith
+one_at_most b = search rules

@@ -1,5 +1,5 @@
 -- The numbers that are told are themselves a lawful model, which takes every kind. Assumes nothing.
-use Rattle.std.proofs.Common.{◌≡◌, ℕ, Bool, true, false, cond, eqb, ◌≢◌, sym, refl, ap, ◌∙◌, ap₂, inl, inr, eq-eqb, ne_eqb}
+use Rattle.std.proofs.Common.{◌≡◌, ℕ, Bool, true, false, eqb, ◌≢◌, sym, refl, ap, ◌∙◌, inl, inr, eq-eqb, ne_eqb, rules, arith}
 use mathlib.Core.Path.{fun_ext}
 use native.Mathlib.Decide.{ℕ_discrete}
 use lib.Bits.{bit_xor, xor_comm, xor_assoc, xor_self}
@@ -8,7 +8,7 @@ use Rattle.circuit.specs.declared.action.Action.{Action}
 use Rattle.register.specs.Rows.{flips}
 use Rattle.circuit.specs.Actions.{wires, carry, exchanged}
 use Rattle.register.specs.Models.{swapped, Model}
-use Rattle.register.specs.Numbers.{write, marked, renumbered}
+use Rattle.register.specs.Numbers.{marked, renumbered}
 
 abbrev State : Type 0
 State = ℕ → ℕ
@@ -17,50 +17,14 @@ module _ (mark : ℕ) where
   abbrev act : Action → State → State
   act = renumbered mark
 
-  pub same_wire : (t : ℕ) (v : ℕ) (s : State) → write t v s t ≡ v
-  same_wire t v s = ap (λ b. cond b v (s t)) (eq-eqb t t refl)
-
-  other_wire : (t w : ℕ) (v : ℕ) (s : State) → w ≢ t → write t v s w ≡ s w
-  other_wire t w v s n = ap (λ b. cond b v (s w)) (ne_eqb w t n)
-
-  write_comm : (t u : ℕ) (v x : ℕ) (s : State) → t ≢ u → write t v (write u x s) ≡ write u x (write t v s)
-  write_comm t u v x s n = fun_ext (λ w. go w (ℕ_discrete w t) (ℕ_discrete w u))
-    where
-      go : (w : ℕ) → Dec (w ≡ t) → Dec (w ≡ u) → write t v (write u x s) w ≡ write u x (write t v s) w
-      go w (yes e) (yes f) = absurd (n (sym e ∙ f))
-      go w (yes e) (no f) = rw (eq-eqb w t e, ne_eqb w u f)
-      go w (no e) (yes f) = rw (ne_eqb w t e, eq-eqb w u f)
-      go w (no e) (no f) = rw (ne_eqb w t e, ne_eqb w u f)
-
-  -- two writes whose values do not read what the other writes
-  writes_apart : (t u : ℕ) (f g : State → ℕ) (s : State) → t ≢ u → f (write u (g s) s) ≡ f s → g (write t (f s) s) ≡ g s
-      → write t (f (write u (g s) s)) (write u (g s) s) ≡ write u (g (write t (f s) s)) (write t (f s) s)
-  writes_apart t u f g s n p q =
-      ap (λ v. write t v (write u (g s) s)) p ∙ write_comm t u (f s) (g s) s n ∙ ap (λ v. write u v (write t (f s) s)) (sym q)
-
-  flips-apart : (a c : ℕ) (s : State) → a ≢ c → write a (bit_xor mark (write c (bit_xor mark (s c)) s a)) (write c (bit_xor mark (s c)) s) ≡ write c (bit_xor mark (write a (bit_xor mark (s a)) s c)) (write a (bit_xor mark (s a)) s)
-  flips-apart a c s u =
-      writes_apart a c (λ r. bit_xor mark (r a)) (λ r. bit_xor mark (r c)) s u (ap (bit_xor mark) (other_wire c a (bit_xor mark (s c)) s u)) (ap (bit_xor mark) (other_wire a c (bit_xor mark (s a)) s (λ e. u (sym e))))
-
-  flip_cnot : (a c d : ℕ) (s : State) → a ≢ c → a ≢ d → marked true mark a (act (Action.Cnot c d) s) ≡ act (Action.Cnot c d) (marked true mark a s)
-  flip_cnot a c d s v u =
-      writes_apart a d (λ r. bit_xor mark (r a)) (λ r. bit_xor (r c) (r d)) s u (ap (bit_xor mark) (other_wire d a (bit_xor (s c) (s d)) s u))
-      (ap₂ bit_xor (other_wire a c (bit_xor mark (s a)) s (λ e. v (sym e))) (other_wire a d (bit_xor mark (s a)) s (λ e. u (sym e))))
-
   cnots_apart : (a b c d : ℕ) (s : State) → b ≢ d → a ≢ d → b ≢ c → act (Action.Cnot a b) (act (Action.Cnot c d) s) ≡ act (Action.Cnot c d) (act (Action.Cnot a b) s)
-  cnots_apart a b c d s u v w =
-      writes_apart b d (λ r. bit_xor (r a) (r b)) (λ r. bit_xor (r c) (r d)) s u
-      (ap₂ bit_xor (other_wire d a (bit_xor (s c) (s d)) s v) (other_wire d b (bit_xor (s c) (s d)) s u))
-      (ap₂ bit_xor (other_wire b c (bit_xor (s a) (s b)) s (λ e. w (sym e))) (other_wire b d (bit_xor (s a) (s b)) s (λ e. u (sym e))))
+  cnots_apart a b c d s u v w = search rules
 
   marks_apart : (f g : Bool) (a c : ℕ) (s : State) → a ≢ c → marked f mark a (marked g mark c s) ≡ marked g mark c (marked f mark a s)
-  marks_apart true true a c s n = flips-apart a c s n
-  marks_apart true false a c s n = refl
-  marks_apart false g a c s n = refl
+  marks_apart f g a c s n = search rules
 
   mark_cnot : (f : Bool) (a c d : ℕ) (s : State) → a ≢ c → a ≢ d → marked f mark a (act (Action.Cnot c d) s) ≡ act (Action.Cnot c d) (marked f mark a s)
-  mark_cnot true a c d s v u = flip_cnot a c d s v u
-  mark_cnot false a c d s v u = refl
+  mark_cnot f a c d s v u = search rules
 
   pub apart : (x y : Action) (s : State) → (Common (wires x) (wires y) → ⊥) → act x (act y s) ≡ act y (act x s)
   apart (Action.One k a) (Action.One l c) s i = marks_apart (flips k) (flips l) a c s (λ e. i (a, inl refl, inl e))
@@ -70,10 +34,10 @@ module _ (mark : ℕ) where
 
   -- a swap relabels
   two_of : (x y : ℕ) → bit_xor (bit_xor x y) x ≡ y
-  two_of x y = xor_comm (bit_xor x y) x ∙ sym (xor_assoc x x y) ∙ ap (λ z. bit_xor z y) (xor_self x)
+  two_of x y = grind (arith, xor_comm, xor_assoc, xor_self)
 
   three_of : (x y : ℕ) → bit_xor (bit_xor (bit_xor x y) x) (bit_xor x y) ≡ x
-  three_of x y = ap (λ z. bit_xor z (bit_xor x y)) (two_of x y) ∙ ap (bit_xor y) (xor_comm x y) ∙ sym (xor_assoc y y x) ∙ ap (λ z. bit_xor z x) (xor_self y)
+  three_of x y = grind (arith, two_of, xor_comm, xor_assoc, xor_self)
 
   swap_is : (a b : ℕ) (s : State) → a ≢ b → swapped act a b s ≡ (λ w. s (exchanged a b w))
   swap_is a b s n = fun_ext (λ w. go w (ℕ_discrete w a) (ℕ_discrete w b))
@@ -97,28 +61,16 @@ module _ (mark : ℕ) where
       go w (no e) (no f) = simp (ab, ba, aa, bb, ne_eqb w a e, ne_eqb w b f)
 
   exchanged-twice : (a b w : ℕ) → a ≢ b → exchanged a b (exchanged a b w) ≡ w
-  exchanged-twice a b w n = go (ℕ_discrete w a) (ℕ_discrete w b)
-    where
-      go : Dec (w ≡ a) → Dec (w ≡ b) → exchanged a b (exchanged a b w) ≡ w
-      go (yes e) (yes f) = absurd (n (sym e ∙ f))
-      go (yes e) (no f) = simp (eq-eqb w a e, ne_eqb b a (λ d. n (sym d)), eq-eqb b b refl) (sym e)
-      go (no e) (yes f) = simp (ne_eqb w a e, eq-eqb w b f, eq-eqb a a refl) (sym f)
-      go (no e) (no f) = simp (ne_eqb w a e, ne_eqb w b f)
+  exchanged-twice a b w n = search rules
 
   exchanged_test : (a b w c : ℕ) → a ≢ b → eqb (exchanged a b w) c ≡ eqb w (exchanged a b c)
-  exchanged_test a b w c n = go (ℕ_discrete (exchanged a b w) c)
-    where
-      go : Dec (exchanged a b w ≡ c) → eqb (exchanged a b w) c ≡ eqb w (exchanged a b c)
-      go (yes e) = eq-eqb (exchanged a b w) c e ∙ sym (eq-eqb w (exchanged a b c) (sym (exchanged-twice a b w n) ∙ ap (exchanged a b) e))
-      go (no f) = ne_eqb (exchanged a b w) c f ∙ sym (ne_eqb w (exchanged a b c) (λ e. f (ap (exchanged a b) e ∙ exchanged-twice a b c n)))
+  exchanged_test a b w c n = search rules
 
   relabelled_mark : (f : Bool) (a b c : ℕ) (s : State) → a ≢ b → (w : ℕ) → marked f mark c (λ v. s (exchanged a b v)) (exchanged a b w) ≡ marked f mark (exchanged a b c) s w
-  relabelled_mark true a b c s n w = ap₂ (λ t x. cond t (bit_xor mark (s (exchanged a b c))) x) (exchanged_test a b w c n) (ap s (exchanged-twice a b w n))
-  relabelled_mark false a b c s n w = ap s (exchanged-twice a b w n)
+  relabelled_mark f a b c s n w = search rules
 
   relabelled : (a b : ℕ) (x : Action) (s : State) → a ≢ b → (w : ℕ) → act x (λ v. s (exchanged a b v)) (exchanged a b w) ≡ act (carry (exchanged a b) x) s w
-  relabelled a b (Action.One k c) s n w = relabelled_mark (flips k) a b c s n w
-  relabelled a b (Action.Cnot c d) s n w = ap₂ (λ t x. cond t (bit_xor (s (exchanged a b c)) (s (exchanged a b d))) x) (exchanged_test a b w d n) (ap s (exchanged-twice a b w n))
+  relabelled a b x s n w = search (rules, relabelled_mark, exchanged_test, exchanged-twice)
 
   pub carried : (a b : ℕ) (x : Action) (s : State) → a ≢ b → swapped act a b (act x (swapped act a b s)) ≡ act (carry (exchanged a b) x) s
   carried a b x s n =
@@ -144,10 +96,8 @@ module _ (mark : ℕ) where
   }
 
   mark_stays : (f : Bool) (a w : ℕ) (s : State) → w ≢ a → marked f mark a s w ≡ s w
-  mark_stays true a w s n = other_wire a w (bit_xor mark (s a)) s n
-  mark_stays false a w s n = refl
+  mark_stays f a w s n = search rules
 
   -- the number of a wire that the action does not name stays
   pub stays : (x : Action) (w : ℕ) (s : State) → (In w (wires x) → ⊥) → act x s w ≡ s w
-  stays (Action.One k a) w s n = mark_stays (flips k) a w s (λ e. n (inl e))
-  stays (Action.Cnot a b) w s n = other_wire b w (bit_xor (s a) (s b)) s (λ e. n (inr (inl e)))
+  stays x w s n = search rules

@@ -1,8 +1,7 @@
 // What a single action is refused for.
-ghost use Rattle.std.specs.Prelude.{◌≡◌, ◌+◌, Bool, None, nat_lt};
+ghost use Rattle.std.specs.Prelude.{◌≡◌, ◌+◌, None, nat_lt};
 ghost use Rattle.refusal.specs.Refusals.{ok_unless};
 ghost use Rattle.circuit.specs.Actions.{is_h};
-ghost use Rattle.circuit.specs.Operations.{one_if};
 ghost use Rattle.register.specs.Models.{is_taken};
 ghost use Rattle.register.specs.Runs.{capacity, is_off_wires, applying_refusal};
 
@@ -34,17 +33,14 @@ pub fn is_taken<G: GateRegister>(register: &G, action: Action) -> bool
 pub fn is_h(action: Action) -> bool
     ensures { result ≡ is_h action }
 {
-    match action {
-        Action::One(Single::H, _) => true,
-        _ => false,
-    }
+    matches!(action, Action::One(Single::H, _))
 }
 
 // Whether so many H more are too many.
 pub fn is_past(done: u32, most: u32, more: usize) -> bool
     ensures { result ≡ nat_lt most (done + more) }
 {
-    done > most || more > (most - done) as usize
+    (done as usize).saturating_add(more) > most as usize
 }
 
 // Why the register does not take an action, or that it does.

@@ -4,14 +4,14 @@ ghost use Rattle.register.specs.Rows.{plain_row};
 use circuit::action::Plain;
 
 // How a plain gate acts on one wire: whether it flips the wire, and how far it turns the phase from 0 and from 1. A turn by n multiplies by ω to the n, where ω⁴ = −1.
-#[derive(Clone, Copy)]
+#[derive(Clone, Copy, PartialEq, Eq, Debug)]
 pub struct PlainRow {
     pub flips: bool,
     pub turn0: u8,
     pub turn1: u8,
 }
 
-// The rows of X, Y, Z, S and T.
+// The rows of X, Y, Z, S and T, in the order of `Plain`. One constant table, a rule of the project, so that each law is proved over all rows.
 const ROWS: [PlainRow; 5] = [
     PlainRow {
         flips: true,
@@ -44,11 +44,5 @@ const ROWS: [PlainRow; 5] = [
 pub fn row(gate: Plain) -> PlainRow
     ensures { result ≡ plain_row gate }
 {
-    match gate {
-        Plain::X => ROWS[0],
-        Plain::Y => ROWS[1],
-        Plain::Z => ROWS[2],
-        Plain::S => ROWS[3],
-        Plain::T => ROWS[4],
-    }
+    ROWS[gate as usize]
 }

@@ -6,7 +6,7 @@ use grid::machine::Machine;
 mod calls;
 
 // Two different cells of a machine.
-#[derive(Clone, Copy)]
+#[derive(Clone, Copy, Debug, PartialEq, Eq)]
 pub struct Endpoints {
     machine: Machine,
     from: u8,

@@ -35,6 +35,10 @@ step_count p q = dist p.0 q.0 + dist p.1 q.1
 abbrev pub cell_at : Grid → ℕ × ℕ → ℕ
 cell_at g p = number g p.0 p.1
 
+-- the cells of the way from p to q
+abbrev pub way : Bool → Grid → ℕ × ℕ → ℕ × ℕ → List ℕ
+way row_first g p q = map (λ k. cell_at g (bent_place row_first p q k)) (range_with_len 0 (step_count p q + 1))
+
 -- the path from a to z
 abbrev pub bent_path : Bool → Grid → ℕ → ℕ → List ℕ
 bent_path row_first g a z = map (λ k. cell_at g (bent_place row_first (place g a) (place g z) k)) (range_with_len 0 (step_count (place g a) (place g z) + 1))

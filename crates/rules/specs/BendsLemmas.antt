@@ -27,6 +27,10 @@ module _ (g : Grid) (fit : GridFit g) where
       let a = u.0 in let b = u.1 in let c = v.0 in let d = v.1 in let e = fit.few_columns in let f = fit.few_rows in
       omega arith
 
+  -- the way between two places stays within the grid
+  pub way_inside : (row_first : Bool) (p q : ℕ × ℕ) → Inside g p → Inside g q → (k : ℕ) → Inside g (bent_place row_first p q k)
+  way_inside row_first p q u v = (bent_walk row_first p q).within g.columns g.rows u.0 u.1 v.0 v.1
+
   module _ (row_first : Bool) (a z : ℕ) (a_in : a < cells g) (z_in : z < cells g) where
     abbrev p : ℕ × ℕ
     p = place g a
@@ -44,7 +48,7 @@ module _ (g : Grid) (fit : GridFit g) where
     walk = bent_walk row_first p q
 
     pub inside : (k : ℕ) → Inside g (f k)
-    inside = let u = place_inside a a_in in let v = place_inside z z_in in walk.within g.columns g.rows u.0 u.1 v.0 v.1
+    inside = way_inside row_first p q (place_inside a a_in) (place_inside z z_in)
 
     pub long : length (bent_path row_first g a z) ≡ n + 1
     long = length-map-range_with_len (λ k. cell_at g (f k)) 0 (n + 1)

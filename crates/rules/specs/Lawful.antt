@@ -1,7 +1,8 @@
 -- The delivered rules are lawful. Assumes nothing.
-use Rattle.std.specs.Prelude.{◌≡◌, ℕ, ◌<◌, min, max, true, length, ◌==◌, nat_eq, nat_le, nat_lt, slice_index, slice_index_or, refl}
+use Rattle.std.specs.Prelude.{◌≡◌, ℕ, ◌<◌, true, length, ◌==◌, nat_eq, nat_lt, slice_index, slice_index_or, refl}
 use Rattle.std.proofs.Common.{sym, ap, subst, ◌∙◌, arith, lit≤}
-use Rattle.std.proofs.lemmas.Bool.{eq-eqb, eqb-true, and_from, and_parts, le-leb, ltb-true, lt-ltb}
+use Rattle.std.proofs.lemmas.Bool.{eq-eqb, eqb-true, and_from, and_parts, ltb-true, lt-ltb}
+use Rattle.std.proofs.lemmas.Bool.Decides.{nat_tests}
 use Rattle.orders.proofs.Lists.{any-has, any-from}
 use Rattle.grid.specs.Grids.{Grid, GridFit, cells, column, row, place}
 use Rattle.route.specs.Routes.{RouteLawful}
@@ -21,7 +22,7 @@ one_bend_lawful = record {
 }
 
 toward_amid : (u v k : ℕ) → amid u v (toward u v k) ≡ true
-toward_amid u v k = and_from (nat_le (min u v) (toward u v k)) (nat_le (toward u v k) (max u v)) (le-leb (min u v) (toward u v k) (omega arith)) (le-leb (toward u v k) (max u v) (omega arith))
+toward_amid u v k = grind (arith, nat_tests)
 
 -- the path along the row first stays in the rectangle
 row_enclosed : (g : Grid) (fit : GridFit g) (a z : ℕ) → a < cells g → z < cells g → (k : ℕ) → k < length (bent_path true g a z) → in_rectangle g a z (slice_index (bent_path true g a z) k) ≡ true

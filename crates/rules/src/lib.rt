@@ -2,5 +2,6 @@
 #![tactic(auto)]
 
 mod bend;
+mod leg;
 pub mod one_bend;
 pub mod rectangle;

@@ -1,15 +1,38 @@
-ghost use Rattle.rules.specs.Bends.{one_bend};
+ghost use Rattle.std.specs.Prelude.{◌≡◌, ◌==◌, nat_eq};
+ghost use Rattle.orders.specs.Lists.{any};
+ghost use Rattle.grid.specs.Members.{has};
+ghost use Rattle.route.specs.Ends.{ends_of};
+ghost use Rattle.rules.specs.Bends.{bent_path, one_bend};
 ghost use Rattle.rules.specs.Lawful.{one_bend_lawful};
+ghost use Rattle.rules.specs.Legs.{is_row};
 
-use crate::bend::{bent_path, bent_path_cells};
+use crate::bend::Bend;
+use crate::leg::Leg;
 use grid::cell_set::CellSet;
 use route::endpoints::Endpoints;
 use route::path::Path;
 use route::rule::RouteRule;
 
 // A path with at most one bend, which reserves its own cells: choice 0 goes along the row first, choice 1 along the column.
-#[derive(Clone, Copy)]
+#[derive(Clone, Copy, Debug, PartialEq, Eq)]
 pub struct OneBend;
+
+// The leg that comes first under a choice.
+fn first_leg(choice: u8) -> Leg
+    ensures { is_row result ≡ (choice == 0) }
+{
+    match choice {
+        0 => Leg::Row,
+        _ => Leg::Column,
+    }
+}
+
+// The cells of the path between two ends under a choice. Apart from `reserved`, whose own proof would else stand before a wrong body is met.
+fn path_cell_set(ends: Endpoints, choice: u8) -> CellSet
+    ensures { has result ≡ (λ c. any (nat_eq c) (bent_path (choice == 0) (ends_of ends).grid (ends_of ends).from (ends_of ends).to)) }
+{
+    CellSet::of_cells(Bend::new(ends, first_leg(choice)).path().cells())
+}
 
 impl RouteRule for OneBend {
     ghost route = { λ x. one_bend };
@@ -21,10 +44,10 @@ impl RouteRule for OneBend {
     }
 
     fn path(&self, ends: Endpoints, choice: u8) -> Path {
-        bent_path(choice == 0, ends)
+        Bend::new(ends, first_leg(choice)).path()
     }
 
     fn reserved(&self, ends: Endpoints, choice: u8) -> CellSet {
-        bent_path_cells(choice == 0, ends)
+        path_cell_set(ends, choice)
     }
 }

@@ -3,25 +3,22 @@ ghost use Rattle.route.specs.Ends.{ends_of};
 ghost use Rattle.rules.specs.Bends.{amid, in_rectangle, rectangle as bounding_rectangle};
 ghost use Rattle.rules.specs.Lawful.{rectangle_lawful};
 
-use crate::bend::bent_path;
+use crate::bend::Bend;
+use crate::leg::Leg;
 use grid::cell_set::CellSet;
 use route::endpoints::Endpoints;
 use route::path::Path;
 use route::rule::RouteRule;
 
 // A path along the row first, which reserves the bounding rectangle of its ends. It has choice 0 only.
-#[derive(Clone, Copy)]
+#[derive(Clone, Copy, Debug, PartialEq, Eq)]
 pub struct Rectangle;
 
 // Whether the number is between a and b, in either order.
 fn is_amid(a: u8, b: u8, v: u8) -> bool
     ensures { result ≡ amid a b v }
 {
-    if a < b {
-        a <= v && v <= b
-    } else {
-        b <= v && v <= a
-    }
+    (a.min(b)..=a.max(b)).contains(&v)
 }
 
 // Whether a cell of the machine is in the bounding rectangle.
@@ -45,14 +42,15 @@ impl RouteRule for Rectangle {
     }
 
     fn path(&self, ends: Endpoints, _choice: u8) -> Path {
-        bent_path(true, ends)
+        Bend::new(ends, Leg::Row).path()
     }
 
     fn reserved(&self, ends: Endpoints, _choice: u8) -> CellSet {
+        // A loop: a chain that filters and then fills a set is no plainer.
         let mut set = CellSet::new();
         for cell in 0..ends.machine().cells() {
             if encloses(ends, cell) {
-                let _ = set.insert(cell);
+                set.insert(cell);
             }
         }
         set

@@ -1,6 +1,6 @@
 -- The constraints on a list of spans. Assumes nothing.
-use Rattle.std.specs.Prelude.{ℕ, Bool, ◌&&◌, List, length, Option, nat_lt, slice_index_or}
-use Rattle.std.specs.Option.{option_map}
+use Rattle.std.specs.Prelude.{ℕ, Bool, cond, ◌&&◌, List, length, None, Option, nat_lt, slice_index_or}
+use Rattle.std.specs.Option.{option_map, option_or}
 use Rattle.search.specs.Searches.{some_below, highest, scan_pairs}
 use Rattle.refusal.specs.declared.Refusal.{Refusal}
 use Rattle.refusal.specs.Refusals.{or_else}
@@ -20,6 +20,23 @@ no_span = record { action = Action.One Single.H 0; start = 0; end = 0; cells = r
 -- the sets have a common cell
 abbrev pub meeting : CellSet → CellSet → Bool
 meeting s t = some_below (λ c. has s c && has t c) 64
+
+-- the second starts before the first, with which it shares a label, ends
+abbrev pub starts_too_early : Span → Span → Bool
+starts_too_early s t = nat_lt t.start s.end && share s.action t.action
+
+-- each starts before the other ends, and they reserve a common cell
+abbrev pub overlaps : Span → Span → Bool
+overlaps s t = nat_lt s.start t.end && (nat_lt t.start s.end && meeting s.cells t.cells)
+
+module _ (p : Plan) (s : Span) where
+  -- the label of a gate at place q, where its home's window is over when the gate ends
+  abbrev pub late_label : ℕ → Option ℕ
+  late_label q = cond (late_at p s.end (wire_at q s.action)) (wire_at q s.action) None
+
+  -- the first such label: that of the control before that of the target
+  abbrev pub first_late_label : Option ℕ
+  first_late_label = option_or (late_label 0) (late_label 1)
 
 module _ (ss : List Span) where
   -- the span of the gate i

@@ -1,48 +1,27 @@
 // A gate does not start before one that comes earlier in the program and shares a label with it ends.
-ghost use Rattle.std.specs.Prelude.{◌≡◌, true, length};
+ghost use Rattle.std.specs.Prelude.{◌≡◌};
 ghost use Rattle.refusal.specs.Refusals.{ok_unless};
-ghost use Rattle.schedule.specs.Schedules.{early_at, early};
+ghost use Rattle.schedule.specs.Schedules.{starts_too_early, early};
 
 use circuit::wires::*;
 use refusal::Refusal;
-use search::{PairTest, first_failure};
+use search::first_pair;
 use spans::span::Span;
 
 // Whether the second gate starts before the first, with which it shares a label, ends.
-#[derive(Drop)]
-struct TooEarly<'s> {
-    spans: &'s [Span],
-}
-
-impl PairTest for TooEarly<'_> {
-    ghost firsts = { λ t. length t.spans.now };
-
-    ghost seconds = { λ t. length t.spans.now };
-
-    ghost ordered = { true };
-
-    ghost failing = { λ t i j. early_at t.spans.now i j };
-
-    fn bounds(&self) -> (usize, usize) {
-        (self.spans.len(), self.spans.len())
-    }
-
-    fn is_ordered(&self) -> bool {
-        true
-    }
-
-    fn fails(&self, i: usize, j: usize) -> bool {
-        let spans = &*self.spans;
-        (spans[j].start as u64) < spans[i].end && spans[i].action.shares_wire(spans[j].action)
-    }
+fn starts_too_early(first: &Span, second: &Span) -> bool
+    ensures { result ≡ starts_too_early first.now second.now }
+{
+    (second.start as u64) < first.end && first.action.shares_wire(second.action)
 }
 
 // Refuses the first two gates that share a label and of which the later starts before the other ends.
 pub(super) fn check_early(spans: &[Span]) -> Result<(), Refusal>
     ensures { result ≡ ok_unless (early spans.now) tt }
 {
-    match first_failure(&TooEarly { spans }) {
-        Some((i, j)) => Err(Refusal::TooEarly(i, j)),
+    // A match: `map_or(Ok(()), ..)` would hide what is answered where nothing is found.
+    match first_pair(spans, starts_too_early) {
+        Some((first, second)) => Err(Refusal::TooEarly(first, second)),
         None => Ok(()),
     }
 }

@@ -1,94 +1,47 @@
 // A gate ends within the windows of the homes of its labels.
-ghost use Rattle.std.specs.Prelude.{◌≡◌, ◌<◌, false, [], length};
+ghost use Rattle.std.specs.Prelude.{◌≡◌, Some, []};
 ghost use Rattle.refusal.specs.Refusals.{ok_unless};
-ghost use Rattle.circuit.specs.Actions.{wire_at};
-ghost use Rattle.plan.specs.Plans.{plan_of};
-ghost use Rattle.plan.specs.Verdicts.{late_at, home_or};
-ghost use Rattle.schedule.specs.Schedules.{span_late, late};
+ghost use Rattle.plan.specs.Verdicts.{late_at};
+ghost use Rattle.spans.specs.Layouts.{layout_plan};
+ghost use Rattle.schedule.specs.Schedules.{late_label, first_late_label, late};
 
-use calibration::table::CalibrationTable;
-use circuit::action::Action;
 use circuit::wires::*;
 use refusal::Refusal;
-use search::{PairTest, first_failure};
-use spans::duration::values_of;
-use spans::path::cell_of;
+use spans::layout::Layout;
 use spans::span::Span;
 
 // Whether the window of a label's home is over at a time.
-fn is_late(table: &CalibrationTable, homes: &[Option<u8>], end: u64, label: Option<u8>) -> bool
-    ensures { result ≡ late_at (plan_of table.now homes.now []) end label }
+fn is_late(layout: &Layout, end: u64, label: u8) -> bool
+    ensures { result ≡ late_at (layout_plan layout.now []) end (Some label) }
 {
-    match label {
-        Some(label) => (values_of(table, cell_of(table.machine(), homes, label)).window as u64)
-            < end,
-        None => false,
-    }
+    (layout.values_at_home(label).window as u64) < end
 }
 
-// The home of the label, or 0 where there is no label.
-fn home_or(table: &CalibrationTable, homes: &[Option<u8>], label: Option<u8>) -> u8
-    ensures { result ≡ home_or (plan_of table.now homes.now []) label }
+// The label of a gate at a place, where its home's window is over when the gate ends. By place, as the definitions name the labels of a gate.
+fn late_label(layout: &Layout, span: &Span, place: usize) -> Option<u8>
+    ensures { result ≡ late_label (layout_plan layout.now []) span.now place }
 {
-    match label {
-        Some(label) => cell_of(table.machine(), homes, label),
-        None => 0,
-    }
+    let label = span.action.wire_at(place)?;
+    is_late(layout, span.end, label).then_some(label)
 }
 
-// Whether a gate ends after the window of the home of its label at a place.
-#[derive(Drop)]
-struct Late<'t, 'h, 's> {
-    table: &'t CalibrationTable,
-    homes: &'h [Option<u8>],
-    spans: &'s [Span],
-}
-
-impl PairTest for Late<'_, '_, '_> {
-    ghost firsts = { λ t. length t.spans.now };
-
-    ghost seconds = { λ t. 2 };
-
-    ghost ordered = { false };
-
-    ghost failing = { λ t i q. span_late (plan_of t.table.now t.homes.now []) t.spans.now i q };
-
-    fn bounds(&self) -> (usize, usize) {
-        (self.spans.len(), 2)
-    }
-
-    fn is_ordered(&self) -> bool {
-        false
-    }
-
-    fn fails(&self, i: usize, place: usize) -> bool {
-        let spans = &*self.spans;
-        is_late(
-            self.table,
-            self.homes,
-            spans[i].end,
-            spans[i].action.wire_at(place),
-        )
-    }
+// The first such label: that of the control before that of the target.
+fn first_late_label(layout: &Layout, span: &Span) -> Option<u8>
+    ensures { result ≡ first_late_label (layout_plan layout.now []) span.now }
+{
+    let control = late_label(layout, span, 0);
+    let target = late_label(layout, span, 1);
+    control.or(target)
 }
 
 // Refuses the first gate that ends after a window, with the cell: the control's home before the target's.
-pub(super) fn check_late(
-    table: &CalibrationTable,
-    homes: &[Option<u8>],
-    spans: &[Span],
-) -> Result<(), Refusal>
-    ensures { result ≡ ok_unless (late (plan_of table.now homes.now []) spans.now) tt }
+pub(super) fn check_late(layout: &Layout, spans: &[Span]) -> Result<(), Refusal>
+    ensures { result ≡ ok_unless (late (layout_plan layout.now []) spans.now) tt }
 {
-    match first_failure(&Late {
-        table,
-        homes,
-        spans,
-    }) {
-        Some((i, place)) => {
-            let cell = home_or(table, homes, spans[i].action.wire_at(place));
-            Err(Refusal::PastWindow(i, cell as usize))
+    for (gate, span) in spans.iter().enumerate() {
+        if let Some(label) = first_late_label(layout, span) {
+            return Err(Refusal::PastWindow(gate, layout.cell_of(label) as usize));
         }
-        None => Ok(()),
     }
+    Ok(())
 }

@@ -1,5 +1,5 @@
 -- The first place, and the first two places, at which a test holds. Assumes nothing.
-use Rattle.std.specs.Prelude.{◌≡◌, ℕ, zero, suc, ◌+◌, ◌<◌, max, Bool, true, false, cond, ◌&&◌, ◌||◌, ◌⊎◌, Some, None, Option, nat_lt}
+use Rattle.std.specs.Prelude.{◌≡◌, ℕ, zero, suc, ◌+◌, ◌<◌, max, Bool, true, false, cond, ◌&&◌, ◌||◌, ◌⊎◌, List, Some, None, Option, nat_lt, slice_index_or}
 
 -- the first of the m places i, i + 1, .. at which the test holds
 abbrev pub first_from : (ℕ → Bool) → ℕ → ℕ → Option ℕ
@@ -20,10 +20,9 @@ abbrev pub highest : (ℕ → ℕ) → ℕ → ℕ
 highest f zero = 0
 highest f (suc n) = max (highest f n) (f n)
 
--- the test, of places in order only or of any
-abbrev pub tested : Bool → (ℕ → ℕ → Bool) → ℕ → ℕ → Bool
-tested true test i j = nat_lt i j && test i j
-tested false test i j = test i j
+-- the first place is below the second, and the elements there pass the test
+abbrev pub paired : {X : Type 0} → (X → X → Bool) → List X → X → ℕ → ℕ → Bool
+paired test xs d i j = nat_lt i j && test (slice_index_or xs i d) (slice_index_or xs j d)
 
 -- the place i with the second place, or else the rest
 abbrev pub beside : ℕ → Option ℕ → Option (ℕ × ℕ) → Option (ℕ × ℕ)

@@ -2,6 +2,7 @@
 #![tactic(auto)]
 
 pub mod duration;
+pub mod layout;
 pub mod path;
 pub mod reserved;
 pub mod span;

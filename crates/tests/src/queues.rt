@@ -5,6 +5,7 @@ use circuit::order::*;
 use plan::agenda::*;
 use plan::gate::*;
 use queue::Queue;
+use refusal::Refusal;
 
 fn entry(start: u32, gate: u16) -> AgendaEntry {
     AgendaEntry { start, gate }
@@ -12,20 +13,21 @@ fn entry(start: u32, gate: u16) -> AgendaEntry {
 
 // Entries leave by start and then by gate; the fourth finds no place.
 #[test]
-fn entries_leave_in_order(rt: HostRuntime) {
+fn entries_leave_in_order(rt: HostRuntime) -> Result<(), Refusal> {
     let mut places = [entry(0, 0); 3];
     let mut queue = Queue::new(&mut places);
-    assert!(rt; queue.push(entry(7, 2)).is_ok());
-    assert!(rt; queue.push(entry(5, 9)).is_ok());
-    assert!(rt; queue.push(entry(5, 1)).is_ok());
-    assert!(rt; queue.push(entry(0, 0)).is_err());
-    assert!(rt; queue.len() == 3);
-    assert!(rt; queue.pop() == Some(entry(5, 1)));
-    assert!(rt; queue.pop() == Some(entry(5, 9)));
-    assert!(rt; queue.push(entry(6, 0)).is_ok());
-    assert!(rt; queue.pop() == Some(entry(6, 0)));
-    assert!(rt; queue.pop() == Some(entry(7, 2)));
-    assert!(rt; queue.pop() == None);
+    queue.push(entry(7, 2))?;
+    queue.push(entry(5, 9))?;
+    queue.push(entry(5, 1))?;
+    assert_eq!(rt; queue.push(entry(0, 0)), Err(Refusal::TooFewPlaces));
+    assert_eq!(rt; queue.len(), 3);
+    assert_eq!(rt; queue.pop(), Some(entry(5, 1)));
+    assert_eq!(rt; queue.pop(), Some(entry(5, 9)));
+    queue.push(entry(6, 0))?;
+    assert_eq!(rt; queue.pop(), Some(entry(6, 0)));
+    assert_eq!(rt; queue.pop(), Some(entry(7, 2)));
+    assert_eq!(rt; queue.pop(), None);
+    Ok(())
 }
 
 fn x_at(start: u32, length: u32, cell: u8) -> Operation {
@@ -39,16 +41,17 @@ fn x_at(start: u32, length: u32, cell: u8) -> Operation {
 
 // Operations stand in order of start, first cell and length; the last place is as it was.
 #[test]
-fn operations_in_order(rt: HostRuntime) {
+fn operations_in_order(rt: HostRuntime) -> Result<(), Refusal> {
     let mut places = [x_at(9, 9, 9); 4];
     let mut queue = Queue::new(&mut places);
-    assert!(rt; queue.push(x_at(4, 2, 1)).is_ok());
-    assert!(rt; queue.push(x_at(4, 1, 1)).is_ok());
-    assert!(rt; queue.push(x_at(4, 9, 0)).is_ok());
+    queue.push(x_at(4, 2, 1))?;
+    queue.push(x_at(4, 1, 1))?;
+    queue.push(x_at(4, 9, 0))?;
     let count = queue.into_sorted();
-    assert!(rt; count == 3);
-    assert!(rt; places[0] == x_at(4, 9, 0));
-    assert!(rt; places[1] == x_at(4, 1, 1));
-    assert!(rt; places[2] == x_at(4, 2, 1));
-    assert!(rt; places[3] == x_at(9, 9, 9));
+    assert_eq!(rt; count, 3);
+    assert_eq!(rt; places[0], x_at(4, 9, 0));
+    assert_eq!(rt; places[1], x_at(4, 1, 1));
+    assert_eq!(rt; places[2], x_at(4, 2, 1));
+    assert_eq!(rt; places[3], x_at(9, 9, 9));
+    Ok(())
 }

@@ -1,7 +1,7 @@
 // One CNOT travels from its control's home to its target's, each action printed.
 #![tactic(auto)]
 
-use anyhow::anyhow;
+use anyhow::Context;
 use calibration::table::CalibrationTable;
 use calibration::values::Calibration;
 use circuit::action::Action;
@@ -32,19 +32,16 @@ fn calibrated(rt: &HostRuntime) -> Result<CalibrationTable, Refusal> {
     Ok(table)
 }
 
+// What this program prints of a machine; no type's Display, here and below, since it is this program's own form.
 fn print_machine(rt: &HostRuntime, table: &CalibrationTable) -> anyhow::Result<()> {
     let machine = table.machine();
     let (columns, rows) = machine.size();
     println!(rt; "machine: columns {columns}, rows {rows}")?;
     for cell in 0..machine.cells() {
         if let Some(values) = table.values(cell) {
-            let single = values.single;
-            let read = values.read;
-            let window = values.window;
-            let east = values.east;
-            let south = values.south;
             println!(rt;
-                "cell {cell}: single {single}, read {read}, window {window}, east {east}, south {south}"
+                "cell {cell}: single {}, read {}, window {}, east {}, south {}",
+                values.single, values.read, values.window, values.east, values.south
             )?;
         }
     }
@@ -60,17 +57,18 @@ fn print_path(rt: &HostRuntime, path: &Path) -> anyhow::Result<()> {
     Ok(())
 }
 
-fn print_operations(rt: &HostRuntime, operations: &[Operation]) -> anyhow::Result<()> {
-    for operation in operations {
-        let start = operation.start;
-        let length = operation.length;
-        let letter = operation.action.letter();
-        let first = operation.action.first_wire();
-        print!(rt; "{start} {length} {letter} {first}")?;
-        match operation.action.second_wire() {
-            Some(second) => println!(rt; " {second}")?,
-            None => println!(rt; " -")?,
-        }
+fn print_operation(rt: &HostRuntime, operation: &Operation) -> anyhow::Result<()> {
+    let action = operation.action;
+    print!(rt;
+        "{} {} {} {}",
+        operation.start,
+        operation.length,
+        action.letter(),
+        action.first_wire()
+    )?;
+    match action.second_wire() {
+        Some(second) => println!(rt; " {second}")?,
+        None => println!(rt; " -")?,
     }
     Ok(())
 }
@@ -78,9 +76,8 @@ fn print_operations(rt: &HostRuntime, operations: &[Operation]) -> anyhow::Resul
 fn tour(rt: &HostRuntime) -> anyhow::Result<()> {
     let table = calibrated(rt)?;
     print_machine(rt, &table)?;
-    let Some(ends) = Endpoints::new(table.machine(), 0, 2) else {
-        return Err(anyhow!("the cells are not two of the machine"));
-    };
+    let machine = table.machine();
+    let ends = Endpoints::new(machine, 0, 2).context("the cells are not two of the machine")?;
     let path = OneBend.path(ends, 0);
     print_path(rt, &path)?;
     let time = route_time(&table, &path);
@@ -94,8 +91,8 @@ fn tour(rt: &HostRuntime) -> anyhow::Result<()> {
     };
     let mut places = [none; 8];
     let count = write_cnot(&table, &path, start, 0, &mut places)?;
-    if count <= places.len() {
-        print_operations(rt, &places[0..count])?;
+    for operation in places.iter().take(count) {
+        print_operation(rt, operation)?;
     }
     Ok(())
 }

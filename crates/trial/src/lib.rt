@@ -2,16 +2,17 @@
 #![tactic(auto)]
 
 ghost use Rattle.std.specs.Prelude.{◌≡◌, ◌<◌, length, Some};
-ghost use Rattle.plan.specs.Plans.{plan_of, retimed_at};
+ghost use Rattle.plan.specs.Plans.{retimed_at};
 ghost use Rattle.plan.specs.Verdicts.{judged};
+ghost use Rattle.spans.specs.Layouts.{layout_plan};
 ghost use Rattle.trial.specs.Trials.{judged_with};
 
-use calibration::table::CalibrationTable;
 use judge::judge;
 use plan::gate::{Gate, Timing};
 use plan::timing::*;
 use refusal::Refusal;
 use route::rule::RouteRule;
+use spans::layout::Layout;
 
 // The gate records while one gate has another timing. Its old one is written back when the trial ends, whichever way that is.
 struct Trial<'a> {
@@ -36,51 +37,44 @@ impl Drop for Trial<'_> {
 
 impl Trial<'_> {
     // What judging says of the records as they are.
-    fn verdict<R: RouteRule>(
-        &self,
-        rule: &R,
-        table: &CalibrationTable,
-        homes: &[Option<u8>],
-    ) -> Result<u64, Refusal>
-        ensures { result ≡ judged (plan_of table.now homes.now self.entry.now.gates.now) (R.RouteRule.route rule.now) }
+    fn verdict<R: RouteRule>(&self, rule: &R, layout: &Layout) -> Result<u64, Refusal>
+        ensures { result ≡ judged (layout_plan layout.now self.entry.now.gates.now) (R.RouteRule.route rule.now) }
     {
-        judge(rule, table, homes, self.gates)
+        judge(rule, layout, self.gates)
     }
 }
 
 // The verdict where a gate has the timing, with the records as they were afterwards.
 fn verdict_with<R: RouteRule>(
     rule: &R,
-    table: &CalibrationTable,
-    homes: &[Option<u8>],
+    layout: &Layout,
     gates: &mut [Gate],
     gate: usize,
     timing: Timing,
 ) -> Result<u64, Refusal>
     requires { gate < length gates.old }
-    ensures answer { result ≡ judged (plan_of table.now homes.now (retimed_at gates.old gate (Some timing))) (R.RouteRule.route rule.now) }
+    ensures answer { result ≡ judged (layout_plan layout.now (retimed_at gates.old gate (Some timing))) (R.RouteRule.route rule.now) }
     ensures kept { gates.new ≡ gates.old }
 {
     let old = gates[gate].timing;
     gates[gate].retime(timing);
     let trial = Trial { gates, gate, old };
-    trial.verdict(rule, table, homes)
+    trial.verdict(rule, layout)
 }
 
 // What judging would say if the gate had the timing, or that there is no such gate. The gates are as they were afterwards.
 pub fn try_timing<R: RouteRule>(
     rule: &R,
-    table: &CalibrationTable,
-    homes: &[Option<u8>],
+    layout: &Layout,
     gates: &mut [Gate],
     gate: usize,
     timing: Timing,
 ) -> Result<u64, Refusal>
-    ensures answer { result ≡ judged_with (plan_of table.now homes.now gates.old) (R.RouteRule.route rule.now) gate timing }
+    ensures answer { result ≡ judged_with (layout_plan layout.now gates.old) (R.RouteRule.route rule.now) gate timing }
     ensures kept { gates.new ≡ gates.old }
 {
     if gate >= gates.len() {
         return Err(Refusal::NoSuchGate(gate));
     }
-    verdict_with(rule, table, homes, gates, gate, timing)
+    verdict_with(rule, layout, gates, gate, timing)
 }

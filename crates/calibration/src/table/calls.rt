@@ -1,6 +1,6 @@
-ghost use Rattle.std.specs.Prelude.{◌≡◌, ◌<◌, Bool, set as set_at, is_ok, if◌then◌else◌, Some, None, MatchResult, nat_lt};
+ghost use Rattle.std.specs.Prelude.{◌≡◌, Bool, set as set_at, is_ok, if◌then◌else◌, Some, None, MatchResult, nat_lt};
 ghost use Rattle.refusal.specs.Refusals.{ok_unless};
-ghost use Rattle.grid.specs.Grids.{grid_of, between, cells as cells_of};
+ghost use Rattle.grid.specs.Grids.{grid_of, cells as cells_of};
 ghost use Rattle.calibration.specs.Calibrations.{has_east, has_south, link_ok, calibration_ok, first_values, first_calibration, values_at, calibrating_refusal};
 ghost use Rattle.calibration.specs.Tables.{table_grid, table_values};
 
@@ -10,25 +10,18 @@ use grid::machine::Machine;
 use refusal::Refusal;
 use std::alloc::Global;
 
-// Whether the value is from 1 to the highest.
-fn is_from_one(value: u32, highest: u32) -> bool
-    ensures { result ≡ between 1 highest value }
-{
-    1 <= value && value <= highest
-}
-
-// Whether the time may be that of a link that is there or not.
+// Whether the time may be that of a link that is there or not. A flag: an `Option` of a link would be made only to be taken apart here.
 fn is_link_time(there: bool, time: u32) -> bool
     ensures { result ≡ link_ok there time }
 {
     if there {
-        is_from_one(time, 1000)
+        (1..=1000).contains(&time)
     } else {
         time == 0
     }
 }
 
-// Whether a cell has a neighbour to the east, and whether to the south.
+// Whether a cell has a neighbour to the east, and whether to the south. A pair of answers, taken apart in the next line. A free function, here and below, since a method would have to stand in the crate of `Machine`.
 fn neighbours_after(machine: Machine, cell: u8) -> (bool, bool)
     ensures { result ≡ (has_east (grid_of machine) cell, has_south (grid_of machine) cell) }
 {
@@ -42,9 +35,9 @@ fn is_in_range(machine: Machine, cell: u8, values: Calibration) -> bool
     ensures { result ≡ calibration_ok (grid_of machine) cell values }
 {
     let (east, south) = neighbours_after(machine, cell);
-    is_from_one(values.single, 255)
-        && is_from_one(values.read, 65535)
-        && is_from_one(values.window, 1000000)
+    (1..=255).contains(&values.single)
+        && (1..=65535).contains(&values.read)
+        && (1..=1000000).contains(&values.window)
         && is_link_time(east, values.east)
         && is_link_time(south, values.south)
 }
@@ -58,8 +51,8 @@ fn values_at_first(machine: Machine, cell: u8) -> Calibration
         single: 1,
         read: 1,
         window: 1000000,
-        east: east as u32,
-        south: south as u32,
+        east: u32::from(east),
+        south: u32::from(south),
     }
 }
 
@@ -67,10 +60,9 @@ fn values_at_first(machine: Machine, cell: u8) -> Calibration
 fn cells_at_first(heap: Global, machine: Machine) -> Result<Vec<Calibration>, Refusal>
     ensures { MatchResult result (λ v. v.items ≡ first_calibration (grid_of machine)) (λ e. e ≡ Refusal.NoMemory) }
 {
-    let mut cells = Vec::new(heap);
-    for cell in 0..machine.cells() {
-        cells.push(values_at_first(machine, cell))?;
-    }
+    let cells = (0..machine.cells())
+        .map(|cell| values_at_first(machine, cell))
+        .collect(heap)?;
     Ok(cells)
 }
 
@@ -124,10 +116,8 @@ impl CalibrationTable {
         ensures grid { table_grid self.new ≡ table_grid self.old }
         ensures after { table_values self.new ≡ (if is_ok result then set_at (table_values self.old) cell values else table_values self.old) }
     {
-        let checked = self.check(cell, values);
-        if checked.is_ok() {
-            self.put(cell, values);
-        }
-        checked
+        self.check(cell, values)?;
+        self.put(cell, values);
+        Ok(())
     }
 }

@@ -1,30 +1,14 @@
-ghost use Rattle.std.specs.Prelude.{◌≡◌, ◌+◌, ◌*◌, ◌/◌, ◌%◌, ◌<◌, ◌≤◌, Decides};
+ghost use Rattle.std.specs.Prelude.{◌≡◌, ◌<◌, Decides};
 ghost use Rattle.grid.specs.Grids.{sized, grid_as, grid_of, cells as cells_of, number as number_at, place as place_of, next_to, beside, are_neighbours, Neighbours};
 
 use crate::machine::Machine;
 use refusal::Refusal;
 
-// The product of two numbers up to 8.
-fn product(a: u8, b: u8) -> u8
-    requires { (a ≤ 8) × (b ≤ 8) }
-    ensures { result ≡ a * b }
-{
-    a * b
-}
-
-// The number of the place (x, y) row by row.
-fn row_major(columns: u8, x: u8, y: u8) -> u16
-    ensures value { result ≡ y * columns + x }
-    ensures back { x < columns → (result % columns ≡ x) × (result / columns ≡ y) }
-{
-    y as u16 * columns as u16 + x as u16
-}
-
 // Whether the numbers differ by 1.
 fn is_next_to(m: u8, n: u8) -> bool
     ensures { result ≡ next_to m n }
 {
-    if m < n { n - m == 1 } else { m - n == 1 }
+    m.abs_diff(n) == 1
 }
 
 // Whether the places differ by 1 in one coordinate and agree in the other.
@@ -39,7 +23,7 @@ impl Machine {
     pub fn new(columns: usize, rows: usize) -> Result<Machine, Refusal>
         ensures { grid_as result ≡ sized columns rows }
     {
-        if columns < 1 || columns > 8 || rows < 1 || rows > 8 {
+        if !(1..=8).contains(&columns) || !(1..=8).contains(&rows) {
             return Err(Refusal::MachineSize);
         }
         Ok(Machine {
@@ -59,7 +43,7 @@ impl Machine {
     pub fn cells(self) -> u8
         ensures { result ≡ cells_of (grid_of self) }
     {
-        product(self.rows, self.columns)
+        self.rows * self.columns
     }
 
     // The number of the cell at column x and row y.
@@ -67,7 +51,7 @@ impl Machine {
         ensures value { result ≡ number_at (grid_of self) x y }
         ensures back { x < (grid_of self).columns → place_of (grid_of self) result ≡ (x, y) }
     {
-        row_major(self.columns, x, y)
+        u16::from(y) * u16::from(self.columns) + u16::from(x)
     }
 
     // The column and the row of a cell.

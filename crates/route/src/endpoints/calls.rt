@@ -18,6 +18,7 @@ impl Endpoints {
         Some(Endpoints { machine, from, to })
     }
 
+    // Readers for each field, since none may be written from outside.
     pub fn machine(self) -> Machine
         ensures { grid_of result ≡ (ends_of self).grid }
     {

@@ -1,21 +1,16 @@
-use Rattle.std.proofs.Common.{◌||◌, sym, ap, ◌∙◌, ap₂, arith}
-use Rattle.std.proofs.lemmas.List.{take_all}
-use Rattle.orders.proofs.Lists.{any-from, any-more}
+use Rattle.std.proofs.Common.{◌||◌, rules, tests, refl, ◌∙◌}
+use Rattle.std.specs.List.{list_any}
+use Rattle.std.proofs.lemmas.Iterator.{YieldsList-from_slice}
+use Rattle.std.proofs.lemmas.Iterator.Search.{any_from_yields_List}
+use Rattle.std.proofs.lemmas.List.Recursion.{same_from_clauses}
+use Rattle.orders.specs.Lists.{any}
 use Rattle.circuit.specs.Actions.{names}
-use Rattle.plan.specs.Plans.{no_gate}
-use Rattle.placement.specs.Placements.{uses}
+use Rattle.plan.specs.declared.gate.Gate.{Gate}
 use Rattle.placement.proofs.missing.is_used.Goals as goal
 
-pub returns-then-names : goal.returns-then-names
-returns-then-names c =
-    sym (any-from (λ g. names g.action c.args.label) c.args.gates.now no_gate c.loop-i.i c.loop-i-test.true (sym c.names.ensures ∙ c.if-names.true))
-
-pub loop-i-preserved : goal.loop-i-preserved
-loop-i-preserved c = (
-  omega arith,
-  any-more (λ g. names g.action c.args.label) c.args.gates.now c.loop-i.i no_gate c.loop-i-test.true
-      ∙ ap₂ ◌||◌ (sym c.names.ensures ∙ c.if-names.false) c.loop-i.invariant.1,
-)
-
 pub returns : goal.returns
-returns c = sym (ap (λ gs. uses gs c.args.label) (sym (take_all c.loop-i.i c.args.gates.now (omega arith))) ∙ c.loop-i.invariant.1)
+returns c =
+    let test = λ (g : Gate). names g.action c.args.label in
+    let gs = c.args.gates.now in
+    any_from_yields_List test _ _ _ c.any.ensures.ran (YieldsList-from_slice gs cc) (λ g b q k. search (rules, tests))
+    ∙ same_from_clauses (list_any test) (any test) (λ g t. test g || t) refl (λ g gs. refl) (λ g gs. refl) gs

@@ -1,19 +1,12 @@
-use Rattle.std.proofs.Common.{◌∷◌, sym, ap, ◌∙◌, arith}
-use Rattle.orders.specs.Sorting.{sorted}
-use Rattle.orders.proofs.Lists.{drop-later}
-use Rattle.queue.proofs.Leaving.{first_leaves}
+use Rattle.std.proofs.Common.{sym, ◌∙◌, arith}
+use Rattle.orders.proofs.Compared.{less_by}
+use Rattle.queue.proofs.Leaving.{taken_out}
 use Rattle.queue.proofs.Queue.take.Goals as goal
 
-pub returns : goal.returns
-returns g c =
+pub returns-clause-leaves : goal.returns-clause-leaves
+returns-clause-leaves g c =
     let before = g.T.Ranked.before in
     let q = c.args.self.now in
-    let t = c.close_up.new.self in
-    let u = c.close_up.ensures in
-    let x = c.index-self-at.result in
-    let out = first_leaves before q.places.now q.len c.args.at x c.requires.some (omega arith) c.index-self-at.is c.requires.least in
-    record {
-      leaves = out ∙ (λ j. c.index-self-at.is j ∷ sym (ap (sorted before) u.front) j);
-      counted = u.counted;
-      lent = record { lender = u.lent.lender; long = u.lent.long; rest = drop-later t.places.now q.places.now t.len q.len (omega arith) u.lent.rest };
-    }
+    let less = less_by before g.T.Ord.cmp g.met.T.Ranked.answers in
+    taken_out before g.T.Ranked.total q.places.now c.copy_within.new.self q.len c.args.at c.index-self-at.result (omega arith) c.index-self-at.is
+    record { within = c.requires.within; first = λ k d h. sym (less _ _) ∙ c.requires.first k d h } c.copy_within.ensures.after

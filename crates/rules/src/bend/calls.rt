@@ -1,0 +1,78 @@
+ghost use Rattle.std.specs.Prelude.{◌≡◌, ◌≤◌};
+ghost use Rattle.route.specs.Ends.{ends_of};
+ghost use Rattle.rules.specs.Bends.{toward as toward_by, bent_place, step_count, bent_path};
+ghost use Rattle.rules.specs.Legs.{is_row};
+ghost use Rattle.rules.specs.Ways.{cell_of, way_of};
+
+use crate::bend::Bend;
+use crate::leg::Leg;
+use route::endpoints::Endpoints;
+use route::path::Path;
+
+// The number k steps from a towards b, and no further.
+fn toward(a: u8, b: u8, k: u8) -> u8
+    ensures { result ≡ toward_by a b k }
+{
+    if a < b {
+        a + k.min(b - a)
+    } else {
+        a - k.min(a - b)
+    }
+}
+
+impl Bend {
+    // The way between two ends.
+    pub(crate) fn new(ends: Endpoints, first: Leg) -> Bend
+        ensures { way_of result ≡ bent_path (is_row first) (ends_of ends).grid (ends_of ends).from (ends_of ends).to }
+    {
+        let machine = ends.machine();
+        Bend {
+            machine,
+            from: machine.place(ends.from()),
+            to: machine.place(ends.to()),
+            first,
+        }
+    }
+
+    // How many steps there are.
+    fn steps(&self) -> u8
+        ensures value { result ≡ step_count self.now.from self.now.to }
+        ensures few { result ≤ 14 }
+    {
+        self.from.0.abs_diff(self.to.0) + self.from.1.abs_diff(self.to.1)
+    }
+
+    // The place after k steps.
+    fn place(&self, k: u8) -> (u8, u8)
+        ensures { result ≡ bent_place (is_row self.now.first) self.now.from self.now.to k }
+    {
+        let (along_row, along_column) = match self.first {
+            Leg::Row => (k, k.saturating_sub(self.from.0.abs_diff(self.to.0))),
+            Leg::Column => (k.saturating_sub(self.from.1.abs_diff(self.to.1)), k),
+        };
+        (
+            toward(self.from.0, self.to.0, along_row),
+            toward(self.from.1, self.to.1, along_column),
+        )
+    }
+
+    // The cell after k steps.
+    fn cell(&self, k: u8) -> u8
+        ensures { result ≡ cell_of self.now k }
+    {
+        let (x, y) = self.place(k);
+        self.machine.number(x, y) as u8
+    }
+
+    // The path along it.
+    pub(crate) fn path(&self) -> Path
+        ensures { result ≡ way_of self.now }
+    {
+        // A loop over the numbers of the steps, and no `collect`, which is given a heap. A path has room for each, so no push is refused.
+        let mut path = Path::new();
+        for k in 0..=self.steps() {
+            let _ = path.push(self.cell(k));
+        }
+        path
+    }
+}
