@@ -1,5 +1,4 @@
-// A link that is missing has time 0, which the machine's makers write so.
-// A cell's calibration, in timeslots: how long a gate on one wire lasts there, how long a read, until when the cell keeps its state (its window), and the times of the links to the east and to the south.
+// A cell's calibration, in timeslots: how long a gate on one wire lasts there, how long a read, until when the cell keeps its state (its window), and the times of the links to the east and to the south, 0 where there is no link.
 #[derive(Clone, Copy, Debug, PartialEq, Eq, Default)]
 pub struct Calibration {
     pub single: u32,

@@ -27,7 +27,7 @@ fn first_leg(choice: u8) -> Leg
     }
 }
 
-// The cells of the path between two ends under a choice. Apart from `reserved`, whose own proof would else stand before a wrong body is met.
+// The cells of the path between two ends under a choice. Apart from `reserved`, since its proof needs that the path's cells are the machine's.
 fn path_cell_set(ends: Endpoints, choice: u8) -> CellSet
     ensures { has result ≡ (λ c. any (nat_eq c) (bent_path (choice == 0) (ends_of ends).grid (ends_of ends).from (ends_of ends).to)) }
 {
