@@ -1,4 +1,4 @@
-// One CNOT travels from its control's home to its target's, each action printed.
+// One CNOT is judged and travels from its control's home to its target's, each action printed.
 #![tactic(auto)]
 
 use anyhow::Context;
@@ -9,11 +9,14 @@ use circuit::operation::Operation;
 use cnot::time::route_time;
 use cnot::write::write_cnot;
 use grid::machine::Machine;
+use judge::judge;
+use plan::gate::{Gate, Timing};
 use refusal::Refusal;
 use route::endpoints::Endpoints;
 use route::path::Path;
 use route::rule::RouteRule;
 use rules::one_bend::OneBend;
+use spans::layout::Layout;
 
 // A machine of 3 columns and 1 row whose links take 2 and 3.
 fn calibrated(rt: &HostRuntime) -> Result<CalibrationTable, Refusal> {
@@ -73,6 +76,24 @@ fn print_operation(rt: &HostRuntime, operation: &Operation) -> anyhow::Result<()
     Ok(())
 }
 
+// The verdict on a plan of one CNOT, from label 0 at cell 0 to label 1 at cell 2.
+fn print_verdict(rt: &HostRuntime, table: &CalibrationTable, start: u32) -> anyhow::Result<()> {
+    let layout = Layout {
+        table,
+        homes: &[Some(0), Some(2)],
+    };
+    let timing = Timing { start, choice: 0 };
+    let cnot = Gate {
+        action: Action::Cnot(0, 1),
+        timing: Some(timing),
+    };
+    match judge(&OneBend, &layout, &[cnot]) {
+        Ok(end) => println!(rt; "the plan passes and ends at {end}")?,
+        Err(refusal) => println!(rt; "the plan is refused: {refusal}")?,
+    }
+    Ok(())
+}
+
 fn tour(rt: &HostRuntime) -> anyhow::Result<()> {
     let table = calibrated(rt)?;
     print_machine(rt, &table)?;
@@ -82,6 +103,7 @@ fn tour(rt: &HostRuntime) -> anyhow::Result<()> {
     print_path(rt, &path)?;
     let time = route_time(&table, &path);
     let start = 5;
+    print_verdict(rt, &table, start)?;
     println!(rt; "a CNOT from cell 0 to cell 2 from {start} on lasts {time}:")?;
     let none = Operation {
         start: 0,
