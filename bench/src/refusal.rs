@@ -61,15 +61,6 @@ impl Refusal {
             Refusal::WrongState => [52, 0, 0],
         }
     }
-
-    /// The refusal with another first place, where it is one that a register names a place in.
-    pub fn at_place(self, place: u32) -> Refusal {
-        match self {
-            Refusal::NoWire { .. } => Refusal::NoWire { place },
-            Refusal::KindNotTaken { .. } => Refusal::KindNotTaken { place },
-            other => other,
-        }
-    }
 }
 
 impl std::fmt::Display for Refusal {

@@ -44,45 +44,41 @@ pub trait Register {
     fn act(&mut self, action: Action);
 
     /// Applies an action that stands alone.
-    fn apply(&mut self, action: Action) -> Result<(), Refusal> {
-        if let Some(refusal) = self.refuses(action, 0) {
-            return Err(refusal);
-        }
-        self.act(action);
-        Ok(())
+    fn apply(&mut self, action: Action) -> Result<(), Refusal>
+    where
+        Self: Sized,
+    {
+        self.apply_all([action].into_iter())
     }
 
-    /// Applies all actions, or none where one is refused; the refusal names its position.
+    /// Applies all actions, or none where one is refused; the refusal names the lowest position of the first test that fails.
     fn apply_all(&mut self, actions: impl Iterator<Item = Action> + Clone) -> Result<(), Refusal>
     where
         Self: Sized,
     {
-        let mut h_before = 0;
-        for (position, action) in actions.clone().enumerate() {
-            if let Some(refusal) = self.refuses(action, h_before) {
-                return Err(refusal.at_place(position as u32));
-            }
-            h_before += u32::from(action.0 == Kind::H);
+        let first_that = |fails: &dyn Fn(Action) -> bool| {
+            actions.clone().position(fails).map(|position| position as u32)
+        };
+        if let Some(place) = first_that(&|action| !is_on_wires(action, self.wires())) {
+            return Err(Refusal::NoWire { place });
+        }
+        if let Some(place) = first_that(&|action| !self.takes(action.0)) {
+            return Err(Refusal::KindNotTaken { place });
+        }
+        let h_more = actions.clone().filter(|action| action.0 == Kind::H).count();
+        if h_more > self.h_left() as usize {
+            return Err(Refusal::TooManyH);
         }
         actions.for_each(|action| self.act(action));
         Ok(())
     }
+}
 
-    /// Why an action is refused after so many more H, if it is.
-    fn refuses(&self, (kind, first, second): Action, h_before: u32) -> Option<Refusal> {
-        let on_wires = match kind {
-            Kind::C => first < self.wires() && second < self.wires() && first != second,
-            _ => first < self.wires(),
-        };
-        if !on_wires {
-            Some(Refusal::NoWire { place: 0 })
-        } else if !self.takes(kind) {
-            Some(Refusal::KindNotTaken { place: 0 })
-        } else if kind == Kind::H && self.h_left() <= h_before {
-            Some(Refusal::TooManyH)
-        } else {
-            None
-        }
+/// Whether an action is on wires below a number, a CNOT on two.
+fn is_on_wires((kind, first, second): Action, wires: usize) -> bool {
+    match kind {
+        Kind::C => first < wires && second < wires && first != second,
+        _ => first < wires,
     }
 }
 
