@@ -1,0 +1,2 @@
+pub mod FirstBlocks
+pub mod Listed
