@@ -4,7 +4,7 @@
 pub mod check;
 pub mod rows;
 
-ghost use Rattle.std.specs.Prelude.{◌≡◌, ℕ, ◌+◌, Bool, is_ok, if◌then◌else◌, Some, None, nat_lt};
+ghost use Rattle.std.specs.Prelude.{◌≡◌, ℕ, ◌+◌, Bool, true, is_ok, is_err, if◌then◌else◌, Some, None, nat_lt};
 ghost use Rattle.refusal.specs.Refusals.{ok_unless};
 ghost use Rattle.circuit.specs.Actions.{is_h};
 ghost use Rattle.circuit.specs.Operations.{one_if};
@@ -50,6 +50,7 @@ pub trait GateRegister {
     // Applies an action, or refuses it and changes nothing.
     fn apply(&mut self, action: Action) -> Result<(), Refusal>
         ensures answer { result ≡ ok_unless (applying_refusal (capacity model most (state self.old) (done self.old) None) action) tt }
+        ensures kept { is_err result ≡ true → self.new ≡ self.old }
         ensures acted { state self.new ≡ (if is_ok result then model.act action (state self.old) else state self.old) }
         ensures counted { done self.new ≡ (if is_ok result then done self.old + one_if (is_h action) else done self.old) };
 }
