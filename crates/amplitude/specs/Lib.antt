@@ -1,0 +1,4 @@
+pub mod Sizes
+pub mod Models
+pub mod Pairs
+pub mod Held
