@@ -1,0 +1,4 @@
+pub mod Words
+pub mod Ends
+pub mod Multiplies
+pub mod Sets

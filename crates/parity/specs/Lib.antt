@@ -1,0 +1,4 @@
+pub mod Parities
+pub mod Registers
+pub mod Vectors
+pub mod Sets
