@@ -1,0 +1,16 @@
+use Rattle.std.proofs.Common.{not, rules, tests, ap, ◌∙◌}
+use Rattle.std.specs.Option.{option_map}
+use Rattle.std.proofs.lemmas.Iterator.{YieldsList-from_slice}
+use Rattle.std.proofs.lemmas.Iterator.Search.{position_from_yields_List}
+use Rattle.circuit.specs.declared.operation.Operation.{Operation}
+use Rattle.refusal.specs.declared.Refusal.{Refusal}
+use Rattle.register.specs.Models.{is_taken}
+use Rattle.running.proofs.Firsts.{named_first}
+use Rattle.running.proofs.first_not_taken.Goals as goal
+
+pub returns : goal.returns
+returns g c =
+    let os = c.args.operations.now in
+    let test = λ (o : Operation). not (is_taken g.G.GateRegister.model.takes o.action) in
+    ap (option_map Refusal.KindNotTaken) (position_from_yields_List test _ _ _ c.position.ensures.ran (YieldsList-from_slice os cc) (λ o b q k. search (rules, tests)))
+    ∙ named_first Refusal.KindNotTaken test os
