@@ -1,0 +1,13 @@
+use Rattle.std.proofs.Common.{length, Some}
+use Rattle.register.specs.Runs.{capacity}
+use Rattle.job.proofs.Runs.{run_answers}
+use Rattle.job.proofs.closed_job.ClosedJob.run_telling.Goals as goal
+
+pub returns-clause-answer : goal.returns-clause-answer
+returns-clause-answer g c =
+    let s = c.args.self.now in
+    let register = c.args.register.now in
+    let q = c.parts.result in
+    let h = c.homes_on_machine in
+    run_answers s.store q.0 h.result q.1.now (capacity g.T.GateRegister.model g.T.GateRegister.most (g.T.GateRegister.state register) (g.T.GateRegister.done register) (Some (length c.args.places.now)))
+    c.run_direct_telling.result s.lived c.parts.ensures h.ensures.machine h.ensures.cells c.run_direct_telling.ensures.answer
