@@ -1,0 +1,4 @@
+// Bytes as lines, in bounded memory. Nothing here knows the subject.
+#![tactic(auto)]
+
+pub mod line;
