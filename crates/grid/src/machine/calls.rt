@@ -54,12 +54,21 @@ impl Machine {
         u16::from(y) * u16::from(self.columns) + u16::from(x)
     }
 
-    // The column and the row of a cell.
+    // The column and the row of a cell. A case for each number of columns: the processor divides by a literal many times faster than by a variable, and each step of a route asks for places.
     pub fn place(self, cell: u8) -> (u8, u8)
         ensures value { result ≡ place_of (grid_of self) cell }
         ensures back { number_at (grid_of self) result.0 result.1 ≡ cell }
     {
-        (cell % self.columns, cell / self.columns)
+        match self.columns {
+            1 => (0, cell),
+            2 => (cell % 2, cell / 2),
+            3 => (cell % 3, cell / 3),
+            4 => (cell % 4, cell / 4),
+            5 => (cell % 5, cell / 5),
+            6 => (cell % 6, cell / 6),
+            7 => (cell % 7, cell / 7),
+            _ => (cell % 8, cell / 8),
+        }
     }
 
     // Whether the cells are on the machine and differ by 1 in one coordinate while they agree in the other.
