@@ -48,6 +48,10 @@ InRange g vs = (c : ℕ) → c < cells g → calibration_ok g c (values_at vs c)
 abbrev pub calibrating_refusal : Grid → ℕ → Calibration → Option Refusal
 calibrating_refusal g c v = or_else (refuse_if (nat_le (cells g) c) (Refusal.NoSuchCell c)) (refuse_if (not (calibration_ok g c v)) (Refusal.ValueOutOfRange c))
 
+-- the time of the link from a cell with these values to the one whose number is d more, on n columns: to the next by the east link, where there is one, and to the one below by the south link
+abbrev pub time_over_gap : ℕ → Calibration → ℕ → ℕ
+time_over_gap n v d = cond (d == 1 && nat_lt 0 v.east) v.east (cond (d == n) v.south 0)
+
 -- the time of the link between two neighbours: in one row that of the lower cell's east link, else that of its south link; 0 where the cells are no neighbours
 abbrev pub link_time : Grid → List Calibration → ℕ → ℕ → ℕ
 link_time g vs c d = cond (are_neighbours g c d) (cond (row g c == row g d) (values_at vs (min c d)).east (values_at vs (min c d)).south) 0
