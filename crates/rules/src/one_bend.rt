@@ -31,7 +31,7 @@ fn first_leg(choice: u8) -> Leg
 fn path_cell_set(ends: Endpoints, choice: u8) -> CellSet
     ensures { has result ≡ (λ c. any (nat_eq c) (bent_path (choice == 0) (ends_of ends).grid (ends_of ends).from (ends_of ends).to)) }
 {
-    CellSet::of_cells(Bend::new(ends, first_leg(choice)).path().cells())
+    Bend::new(ends, first_leg(choice)).cell_set()
 }
 
 impl RouteRule for OneBend {

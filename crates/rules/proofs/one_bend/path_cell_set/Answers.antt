@@ -17,4 +17,4 @@ returns c =
     let row_first = eqb c.args.choice 0 in
     let path = bent_path row_first g e.from e.to in
     let low = All-from_get_or (λ d. d < 64) path 0 (λ k l. omega (arith, bent_below g fit row_first e.from e.to e.within.0 e.within.1 k l, few-cells g fit)) in
-    c.of_cells.ensures ∙ ap listed_cells (c.cells.ensures.value ∙ c.path.ensures ∙ c.new.ensures ∙ ap (λ b. bent_path b g e.from e.to) c.first_leg.ensures) ∙ fun_ext (λ x. listed_all path x low)
+    c.cell_set.ensures ∙ ap listed_cells (c.new.ensures ∙ ap (λ b. bent_path b g e.from e.to) c.first_leg.ensures) ∙ fun_ext (λ x. listed_all path x low)

@@ -1,7 +1,7 @@
-use Rattle.std.proofs.Common.{◌≡◌, map}
+use Rattle.std.proofs.Common.{◌≡◌, ◌+◌, map}
 use Rattle.std.specs.List.{range_with_len}
 use Rattle.rules.specs.Ways.{cell_of}
 use Rattle.rules.proofs.bend.Bend.path.Given as goal
 
 abbrev pub invariant-loop-k : goal.invariant-loop-k
-invariant-loop-k l = l.path ≡ map (cell_of l.self) (range_with_len 0 l.k)
+invariant-loop-k l = (l.cell ≡ cell_of l.self l.k) × (l.path ≡ map (cell_of l.self) (range_with_len 0 (l.k + 1)))
