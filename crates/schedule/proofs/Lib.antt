@@ -1,2 +1,3 @@
 pub mod Common
 pub mod LatePlaces
+pub mod Sweeps
