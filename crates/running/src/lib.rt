@@ -3,11 +3,12 @@
 
 pub mod counts;
 
-ghost use Rattle.std.specs.Prelude.{◌≡◌, ◌+◌, not, None, nat_lt};
+ghost use Rattle.std.specs.Prelude.{◌≡◌, ◌+◌, true, not, None, nat_lt};
 ghost use Rattle.std.specs.Option.{option_map};
 ghost use Rattle.refusal.specs.Refusals.{refuse_if, ok_unless};
 ghost use Rattle.circuit.specs.Operations.{h_count, read_count};
 ghost use Rattle.register.specs.Models.{is_taken};
+ghost use Rattle.running.specs.Fitting.{unfit};
 ghost use Rattle.register.specs.Runs.{capacity, is_off_wires, at_first, too_few, running_refusal, RunningFair};
 
 use crate::counts::{count_h, count_reads};
@@ -56,6 +57,30 @@ fn check_kinds<G: GateRegister>(register: &G, operations: &[Operation]) -> Resul
     }
 }
 
+// Whether each operation is on the wires and of a kind that is taken: one pass, where the two tests that name the first take one each.
+fn are_taken<G: GateRegister>(register: &G, operations: &[Operation]) -> bool
+    ensures { result ≡ true → unfit (G.GateRegister.model.size (G.GateRegister.state register.now)) G.GateRegister.model.takes operations.now ≡ None }
+{
+    let wires = register.wires();
+    for operation in operations {
+        if is_off_wires(wires, operation.action) || !is_taken(register, operation.action) {
+            return false;
+        }
+    }
+    true
+}
+
+// Refuses the first operation that is not on the wires, then the first of a kind that is not taken.
+fn check_fit<G: GateRegister>(register: &G, operations: &[Operation]) -> Result<(), Refusal>
+    ensures { result ≡ ok_unless (unfit (G.GateRegister.model.size (G.GateRegister.state register.now)) G.GateRegister.model.takes operations.now) tt }
+{
+    if are_taken(register, operations) {
+        return Ok(());
+    }
+    check_wires(register, operations)?;
+    check_kinds(register, operations)
+}
+
 // Refuses more H than the register may still do.
 fn check_h<G: GateRegister>(register: &G, operations: &[Operation]) -> Result<(), Refusal>
     ensures { result ≡ ok_unless (refuse_if (nat_lt G.GateRegister.most (G.GateRegister.done register.now + h_count operations.now)) Refusal.TooManyH) tt }
@@ -84,8 +109,7 @@ fn check_each<G: GateRegister>(
 ) -> Result<(), Refusal>
     ensures { result ≡ ok_unless (running_refusal (capacity G.GateRegister.model G.GateRegister.most (G.GateRegister.state register.now) (G.GateRegister.done register.now) places) operations.now) tt }
 {
-    check_wires(register, operations)?;
-    check_kinds(register, operations)?;
+    check_fit(register, operations)?;
     check_h(register, operations)?;
     check_places(operations, places)
 }
