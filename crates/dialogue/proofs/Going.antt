@@ -1,9 +1,9 @@
 -- A text answered line by line, from any place in it on. Assumes nothing.
-use Rattle.std.proofs.Common.{◌≡◌, ℕ, List, [], ◌∷◌, ◌++◌, map, take, Option, Some, None, sym, refl, ap, ◌∙◌, subst, append_assoc, append-nil}
+use Rattle.std.proofs.Common.{◌≡◌, ℕ, ◌≤◌, List, [], ◌∷◌, ◌++◌, length, map, take, Option, Some, None, sym, refl, ap, ◌∙◌, subst, append_assoc, append-nil}
 use Rattle.std.specs.Option.{IfSome}
 use Rattle.std.specs.Io.KnownBytes.{Appends, Consumes, IsAtEnd, Keeps}
-use Rattle.lines.specs.Lines.{lines_of, ended_by, after_byte, last_line, with_line, handed_out, kept_of}
-use Rattle.lines.proofs.Feeding.{feeding_gives_lines}
+use Rattle.lines.specs.Lines.{lines_of, last_line, with_line, handed_out, kept_of, NoLineFeed}
+use Rattle.lines.proofs.Feeding.{feeding_gives_lines, held_part, handed_line}
 use Rattle.dialogue.specs.Dialogues.{AnsweredOn, Dialogue, over, line, Served, next_number}
 
 pub appends_none : (a : Option (List ℕ)) → Appends a a []
@@ -41,30 +41,27 @@ module _ {S : Type 0} (answers : S → ℕ → List ℕ → S → List ℕ → T
   pub answered_first : (held : List ℕ) (s : S) (n : ℕ) (now : Option (List ℕ)) → AnsweredSo [] held s n now held s n now
   answered_first held s n now = ([], λ rest u qs d. d, appends_none now)
 
-  -- a byte that ends no line
-  pub answered_kept : (p was : List ℕ) (s : S) (n : ℕ) (then : Option (List ℕ)) (held next : List ℕ) (b : ℕ) (t : S) (m : ℕ) (now : Option (List ℕ))
-      → None ≡ ended_by held b → next ≡ after_byte held b → AnsweredSo p was s n then held t m now → AnsweredSo (p ++ b ∷ []) was s n then next t m now
-  answered_kept p was s n then held next b t m now e f a = (
-    a.0,
-    λ rest u qs d. subst (λ l. Dialogue answers s n (handed_out was l) u (a.0 ++ qs)) (sym (append_assoc p (b ∷ []) rest))
-        (a.1 (b ∷ rest) u qs (subst (λ o. Dialogue answers t m (with_line o (handed_out (after_byte held b) rest)) u qs) e (subst (λ h. Dialogue answers t m (handed_out h rest) u qs) f d))),
-    a.2,
-  )
-
-  -- a byte that ends a line, which was answered
-  pub answered_ended : (p was : List ℕ) (s : S) (n : ℕ) (then : Option (List ℕ)) (held next : List ℕ) (b : ℕ) (t : S) (m k : ℕ) (now : Option (List ℕ)) (l given : List ℕ) (u : S) (last : Option (List ℕ))
-      → Some l ≡ ended_by held b → next ≡ after_byte held b → k ≡ next_number m → given ≡ l
-      → (bs : List ℕ) × answers t m given u bs × Appends now last bs
-      → AnsweredSo p was s n then held t m now → AnsweredSo (p ++ b ∷ []) was s n then next u k last
-  answered_ended p was s n then held next b t m k now l given u last e f o i said a =
-      let answered : answers t m l u said.0 = subst (λ g. answers t m g u said.0) i said.1 in (
-        a.0 ++ said.0,
-        λ rest v qs d. subst (λ x. Dialogue answers s n (handed_out was x) v ((a.0 ++ said.0) ++ qs)) (sym (append_assoc p (b ∷ []) rest))
-            (subst (Dialogue answers s n (handed_out was (p ++ b ∷ rest)) v) (sym (append_assoc a.0 said.0 qs))
-            (a.1 (b ∷ rest) v (said.0 ++ qs) (subst (λ x. Dialogue answers t m (with_line x (handed_out (after_byte held b) rest)) v (said.0 ++ qs)) e
-            (line answered (subst (λ j. Dialogue answers u j (handed_out (after_byte held b) rest) v qs) o (subst (λ h. Dialogue answers u k (handed_out h rest) v qs) f d)))))),
-        appends_both then now last a.0 said.0 a.2 said.2,
+  -- a line, which was answered
+  pub answered_line : (end was : List ℕ) (s : S) (n : ℕ) (then : Option (List ℕ)) (given next : List ℕ) (t : S) (m : ℕ) (now : Option (List ℕ))
+      → NoLineFeed end → length was ≤ 81 → given ≡ take 81 (was ++ end) → next ≡ [] → m ≡ next_number n
+      → (bs : List ℕ) × answers s n given t bs × Appends then now bs
+      → AnsweredSo (end ++ 10 ∷ []) was s n then next t m now
+  answered_line end was s n then given next t m now none few e f o said =
+      let answered : answers s n (take 81 (was ++ end)) t said.0 = subst (λ g. answers s n g t said.0) e said.1 in (
+        said.0,
+        λ rest u qs d. subst (λ ls. Dialogue answers s n ls u (said.0 ++ qs)) (sym (ap (handed_out was) (append_assoc end (10 ∷ []) rest) ∙ handed_line end rest was none few))
+            (line answered (subst (λ j. Dialogue answers t j (handed_out [] rest) u qs) o (subst (λ h. Dialogue answers t m (handed_out h rest) u qs) f d))),
+        said.2,
       )
+
+  -- bytes that end no line
+  pub answered_part : (part was : List ℕ) (s : S) (n : ℕ) (now : Option (List ℕ)) (next : List ℕ)
+      → NoLineFeed part → length was ≤ 81 → next ≡ take 81 (was ++ part) → AnsweredSo part was s n now next s n now
+  answered_part part was s n now next none few e = (
+    [],
+    λ rest u qs d. subst (λ ls. Dialogue answers s n ls u qs) (sym (held_part part rest was none few)) (subst (λ h. Dialogue answers s n (handed_out h rest) u qs) e d),
+    appends_none now,
+  )
 
   -- one piece after another
   pub answered_both : (p q was : List ℕ) (s : S) (n : ℕ) (then : Option (List ℕ)) (held : List ℕ) (t : S) (m : ℕ) (now : Option (List ℕ)) (next : List ℕ) (u : S) (k : ℕ) (last : Option (List ℕ))
@@ -75,6 +72,31 @@ module _ {S : Type 0} (answers : S → ℕ → List ℕ → S → List ℕ → T
         (subst (Dialogue answers s n (handed_out was (p ++ (q ++ rest))) v) (sym (append_assoc a.0 b.0 qs)) (a.1 (q ++ rest) v (b.0 ++ qs) (b.1 rest v qs d))),
     appends_both then now last a.0 b.0 a.2 b.2,
   )
+
+  -- what was printed of the front of a piece, of which the rest is left
+  abbrev pub AnsweredFront : List ℕ → List ℕ → S → ℕ → Option (List ℕ) → List ℕ → List ℕ → S → ℕ → Option (List ℕ) → Type 0
+  AnsweredFront piece was s n then rest held t m now = (front : List ℕ) × (piece ≡ front ++ rest) × AnsweredSo front was s n then held t m now
+
+  pub front_first : (piece held : List ℕ) (s : S) (n : ℕ) (now : Option (List ℕ)) → AnsweredFront piece held s n now piece held s n now
+  front_first piece held s n now = ([], refl, answered_first held s n now)
+
+  -- a line of the rest was answered
+  pub front_line : (piece was : List ℕ) (s : S) (n : ℕ) (then : Option (List ℕ)) (rest held : List ℕ) (t : S) (m : ℕ) (now : Option (List ℕ)) (end after next : List ℕ) (u : S) (k : ℕ) (last : Option (List ℕ))
+      → rest ≡ end ++ 10 ∷ after → AnsweredSo (end ++ 10 ∷ []) held t m now next u k last
+      → AnsweredFront piece was s n then rest held t m now → AnsweredFront piece was s n then after next u k last
+  front_line piece was s n then rest held t m now end after next u k last e a f = (
+    f.0 ++ (end ++ 10 ∷ []),
+    f.1 ∙ ap (λ l. f.0 ++ l) (e ∙ sym (append_assoc end (10 ∷ []) after)) ∙ sym (append_assoc f.0 (end ++ 10 ∷ []) after),
+    answered_both f.0 (end ++ 10 ∷ []) was s n then held t m now next u k last f.2 a,
+  )
+
+  -- no line ends in the rest
+  pub front_part : (piece was : List ℕ) (s : S) (n : ℕ) (then : Option (List ℕ)) (rest held : List ℕ) (t : S) (m : ℕ) (now : Option (List ℕ)) (next : List ℕ)
+      → NoLineFeed rest → length held ≤ 81 → next ≡ take 81 (held ++ rest)
+      → AnsweredFront piece was s n then rest held t m now → AnsweredSo piece was s n then next t m now
+  front_part piece was s n then rest held t m now next none few e f =
+      subst (λ p. AnsweredSo p was s n then next t m now) (sym f.1)
+      (answered_both f.0 rest was s n then held t m now next t m now f.2 (answered_part rest held t m now next none few e))
 
   -- where no line is left
   pub last_none : (held : List ℕ) (s : S) (n : ℕ) (now : Option (List ℕ)) → None ≡ last_line held

@@ -1,10 +1,11 @@
-ghost use Rattle.std.specs.Prelude.{◌≡◌, ℕ, List, [], ◌∷◌, OnOk, IfOk, take};
+ghost use Rattle.std.specs.Prelude.{◌≡◌, ℕ, List, [], ◌∷◌, ◌++◌, OnOk, IfOk, take};
 ghost use Rattle.std.specs.Io.{ReadsAtMost};
 ghost use Rattle.std.specs.Io.KnownBytes.{Appends, Consumes, IsAtEnd};
-ghost use Rattle.lines.specs.Lines.{handed_out};
+ghost use Rattle.lines.specs.Lines.{handed_out, NoLineFeed};
 ghost use Rattle.dialogue.specs.Dialogues.{AnsweredOn, Dialogue, Served, next_number};
 
 use crate::responder::Responder;
+use lines::first::first_line;
 use lines::line::Line;
 use std::io;
 use std::io::{ErrorKind, Read, Write};
@@ -19,20 +20,20 @@ fn number_after(number: u64) -> u64
     number.saturating_add(1)
 }
 
-// Takes the next byte of the text, and answers the line that it ends, if it ends one.
-fn answer_byte<W: Write, S: Responder>(
-    byte: u8,
+// Answers the line that ends with these bytes, which is what was held of it and they; the next begins.
+fn answer_line<W: Write, S: Responder>(
+    end: &[u8],
     line: &mut Line,
     number: &mut u64,
     out: &mut W,
     responder: &mut S,
 ) -> io::Result<()>
-    ensures { OnOk result ((printed : List ℕ) × AnsweredOn S.answers (byte ∷ []) line.old responder.old number.old line.new responder.new number.new printed × Appends (W.contents out.old) (W.contents out.new) printed) }
+    requires { NoLineFeed end.now }
+    ensures { OnOk result ((printed : List ℕ) × AnsweredOn S.answers (end.now ++ 10 ∷ []) line.old responder.old number.old line.new responder.new number.new printed × Appends (W.contents out.old) (W.contents out.new) printed) }
 {
-    let Some(ended) = line.feed(byte) else {
-        return Ok(());
-    };
-    responder.answer(*number, ended.bytes(), out)?;
+    line.extend(end);
+    responder.answer(*number, line.bytes(), out)?;
+    *line = Line::new();
     *number = number_after(*number);
     Ok(())
 }
@@ -47,9 +48,12 @@ fn answer_piece<W: Write, S: Responder>(
 ) -> io::Result<()>
     ensures { OnOk result ((printed : List ℕ) × AnsweredOn S.answers piece.now line.old responder.old number.old line.new responder.new number.new printed × Appends (W.contents out.old) (W.contents out.new) printed) }
 {
-    for byte in piece {
-        answer_byte(*byte, line, number, out, responder)?;
+    let mut rest = piece;
+    while let Some((end, after)) = first_line(rest) {
+        answer_line(end, line, number, out, responder)?;
+        rest = after;
     }
+    line.extend(rest);
     Ok(())
 }
 

@@ -1,7 +1,7 @@
--- Byte by byte the lines of a text are handed out. Assumes nothing.
-use Rattle.std.proofs.Common.{◌≡◌, ℕ, zero, suc, ◌+◌, ◌<◌, ◌≤◌, Bool, true, false, cond, eqb, Some, None, List, [], ◌∷◌, ◌++◌, length, map, take, set, sym, refl, ap, ◌∙◌, arith, append-nil, length-append, length-take-le, take_all}
-use Rattle.std.proofs.lemmas.List.{take_more_set, take-append-le}
-use Rattle.lines.specs.Lines.{in_front, lines_of, last_line, with_line, handed_out, kept_of, FeedingGivesLines}
+-- The lines of a text are handed out. Assumes nothing.
+use Rattle.std.proofs.Common.{◌≡◌, ℕ, zero, suc, ◌≤◌, Bool, true, false, cond, eqb, List, [], ◌∷◌, ◌++◌, length, map, take, sym, refl, ap, ◌∙◌, arith, append-nil, length-take, take_all}
+use Rattle.std.specs.Prelude.{◌==◌}
+use Rattle.lines.specs.Lines.{in_front, lines_of, last_line, with_line, handed_out, kept_of, NoLineFeed, FeedingGivesLines}
 
 -- the lines with several bytes in front
 abbrev pub with_front : List ℕ → List (List ℕ) → List (List ℕ)
@@ -34,7 +34,7 @@ last_given n [] = refl
 last_given n (b ∷ bs) = refl
 
 step : (n : ℕ) (p bs : List ℕ) (b : ℕ) (t : Bool) (out : List ℕ → List (List ℕ)) → ((q : List ℕ) → out (take (suc n) q) ≡ map (take (suc n)) (with_front q (lines_of bs)))
-    → with_line (cond t (Some (take (suc n) p)) None) (out (cond t [] (take (suc n) (take (suc n) p ++ b ∷ [])))) ≡ map (take (suc n)) (with_front p (cond t ([] ∷ lines_of bs) (in_front b (lines_of bs))))
+    → cond t (take (suc n) p ∷ out []) (out (take (suc n) (take (suc n) p ++ b ∷ []))) ≡ map (take (suc n)) (with_front p (cond t ([] ∷ lines_of bs) (in_front b (lines_of bs))))
 step n p bs b true out more = ap (λ ls. take (suc n) p ∷ ls) (more []) ∙ ap (map (take (suc n))) (sym (front_ended p (lines_of bs)))
 step n p bs b false out more = ap out (take_twice (suc n) p (b ∷ [])) ∙ more (p ++ b ∷ []) ∙ ap (map (take (suc n))) (sym (front_more p b (lines_of bs)))
 
@@ -45,16 +45,25 @@ given (b ∷ bs) p = step 80 p bs b (eqb b 10) (λ h. handed_out h bs) (λ q. gi
 pub feeding_gives_lines : FeedingGivesLines
 feeding_gives_lines text = given text []
 
--- a byte behind fewer than 81
-pub kept_pushed : (places : List ℕ) (len b : ℕ) → len < 81 → length places ≡ 81 → take (len + 1) (set places len b) ≡ take 81 (take len places ++ b ∷ [])
-kept_pushed places len b h long =
-    let short : len ≤ length places = omega arith in
-    let few : length (take len places ++ b ∷ []) ≤ 81 = omega (arith, length-append (take len places) (b ∷ []), length-take-le len places short) in
-    take_more_set places len b (omega arith) ∙ sym (take_all 81 (take len places ++ b ∷ []) few)
+-- a byte that ends no line is held
+kept : (b : ℕ) (bs held : List ℕ) → (b == 10) ≡ false → handed_out held (b ∷ bs) ≡ handed_out (take 81 (held ++ b ∷ [])) bs
+kept b bs held e = λ i. cond (e i) (held ∷ handed_out [] bs) (handed_out (take 81 (held ++ b ∷ [])) bs)
 
--- 81 bytes keep out the next
-pub kept_full : (places : List ℕ) (len b : ℕ) → len ≤ 81 → 81 ≤ len → length places ≡ 81 → take len places ≡ take 81 (take len places ++ b ∷ [])
-kept_full places len b h full long =
-    let short : len ≤ length places = omega arith in
-    let front : length (take len places) ≡ 81 = omega (arith, length-take-le len places short) in
-    sym (take_all 81 (take len places) (omega arith)) ∙ sym (take-append-le 81 (take len places) (b ∷ []) (omega arith))
+held_twice : (held bs : List ℕ) (b : ℕ) → take 81 (take 81 (held ++ b ∷ []) ++ bs) ≡ take 81 (held ++ b ∷ bs)
+held_twice held bs b = take_twice 81 (held ++ b ∷ []) bs ∙ ap (take 81) (one_more held bs b)
+
+few_held : (bs : List ℕ) → length (take 81 bs) ≤ 81
+few_held bs = omega (arith, length-take 81 bs)
+
+nothing_more : (held : List ℕ) → length held ≤ 81 → take 81 (held ++ []) ≡ held
+nothing_more held few = ap (take 81) (append-nil held) ∙ take_all 81 held few
+
+-- bytes that end no line are held
+pub held_part : (part rest held : List ℕ) → NoLineFeed part → length held ≤ 81 → handed_out held (part ++ rest) ≡ handed_out (take 81 (held ++ part)) rest
+held_part [] rest held none few = ap (λ h. handed_out h rest) (sym (nothing_more held few))
+held_part (b ∷ part) rest held none few =
+    kept b (part ++ rest) held none.0 ∙ held_part part rest (take 81 (held ++ b ∷ [])) none.1 (few_held (held ++ b ∷ [])) ∙ ap (λ h. handed_out h rest) (held_twice held part b)
+
+-- a line feed hands out the line
+pub handed_line : (line rest held : List ℕ) → NoLineFeed line → length held ≤ 81 → handed_out held (line ++ 10 ∷ rest) ≡ take 81 (held ++ line) ∷ handed_out [] rest
+handed_line line rest held none few = held_part line (10 ∷ rest) held none few

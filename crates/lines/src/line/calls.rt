@@ -1,5 +1,5 @@
-ghost use Rattle.std.specs.Prelude.{◌≡◌, ◌≤◌, [], ◌∷◌, ◌++◌, length, take};
-ghost use Rattle.lines.specs.Lines.{ended_by, after_byte, last_line, FeedingGivesLines};
+ghost use Rattle.std.specs.Prelude.{◌≡◌, ◌+◌, ◌≤◌, [], ◌++◌, length, take};
+ghost use Rattle.lines.specs.Lines.{last_line, FeedingGivesLines};
 
 use crate::line::Line;
 
@@ -22,20 +22,15 @@ impl Line {
         &self.places[..self.len]
     }
 
-    #[tactic(auto, using(crate::proofs::Feeding::feeding_gives_lines))]
-    // Takes the next byte, and hands out the line where the byte ends it; a new one begins then.
-    pub fn feed(&mut self, byte: u8) -> Option<Line>
-        ensures ended { result ≡ ended_by self.old byte }
-        ensures after { self.new ≡ after_byte self.old byte }
+    #[tactic(auto, using(crate::proofs::Extending::part_that_fits, crate::proofs::Feeding::feeding_gives_lines))]
+    // Takes more bytes of the line, as far as there is room for them.
+    pub fn extend(&mut self, bytes: &[u8])
+        ensures after { self.new ≡ take 81 (self.old ++ bytes.now) }
+        ensures few { length self.old ≤ 81 }
         ensures law { FeedingGivesLines }
     {
-        if byte == b'\n' {
-            let ended = *self;
-            *self = Line::new();
-            return Some(ended);
-        }
-        self.keep(byte);
-        None
+        let count = (81 - self.len).min(bytes.len());
+        self.append(&bytes[..count]);
     }
 
     // What is left where no byte comes any more: a line, unless it is empty.
@@ -45,14 +40,13 @@ impl Line {
         if self.len == 0 { None } else { Some(self) }
     }
 
-    #[tactic(auto, using(crate::proofs::Feeding::kept_pushed, crate::proofs::Feeding::kept_full))]
-    // Puts a byte behind those that are kept, if there is room.
-    fn keep(&mut self, byte: u8)
-        ensures { self.new ≡ take 81 (self.old ++ byte ∷ []) }
+    // Puts bytes behind those that are kept.
+    fn append(&mut self, bytes: &[u8])
+        requires { length self.old + length bytes.now ≤ 81 }
+        ensures { self.new ≡ self.old ++ bytes.now }
     {
-        if self.len < 81 {
-            self.places[self.len] = byte;
-            self.len += 1;
-        }
+        let end = self.len + bytes.len();
+        self.places[self.len..end].copy_from_slice(bytes);
+        self.len = end;
     }
 }

@@ -1,11 +1,21 @@
-use Rattle.std.proofs.Common.{[], ◌∷◌, take, sym, subst}
-use Rattle.std.proofs.lemmas.List.{take_more}
-use Rattle.dialogue.proofs.Going.{AnsweredSo, answered_both}
+use Rattle.std.proofs.Common.{◌∷◌, ap, arith, length, length-append}
+use Rattle.dialogue.proofs.Going.{front_first, front_line, front_part}
 use Rattle.dialogue.proofs.serve.answer_piece.Goals as goal
 
-pub loop-byte-preserved : goal.loop-byte-preserved
-loop-byte-preserved g c =
-    let xs = c.args.piece.now in
-    let i = c.loop-byte.byte-index in
-    subst (λ p. AnsweredSo g.S.Responder.answers p c.args.line.now c.args.responder.now c.args.number.now (g.W.Write.contents c.args.out.now) c.answer_byte.new.line c.answer_byte.new.responder c.answer_byte.new.number (g.W.Write.contents c.answer_byte.new.out)) (sym (take_more xs i 0 c.loop-byte-test.true))
-    (answered_both g.S.Responder.answers (take i xs) (_ ∷ []) _ _ _ _ _ _ _ _ _ _ _ _ c.loop-byte.invariant c.in_ok-answer_byte.ensures)
+pub loop-end-init : goal.loop-end-init
+loop-end-init g c = front_first g.S.Responder.answers _ _ _ _ _
+
+pub loop-end-smaller : goal.loop-end-smaller
+loop-end-smaller g c =
+    let end = c.in-Some.end.now in
+    let after = c.in-Some.after.now in
+    omega (arith, ap length c.in-Some.ensures.1, length-append end (10 ∷ after))
+
+pub loop-end-preserved : goal.loop-end-preserved
+loop-end-preserved g c =
+    front_line g.S.Responder.answers _ _ _ _ _ _ _ _ _ _ c.in-Some.end.now c.in-Some.after.now _ _ _ _
+    c.in-Some.ensures.1 c.in_ok-answer_line.ensures c.loop-end.invariant
+
+pub returns : goal.returns
+returns g c =
+    front_part g.S.Responder.answers _ _ _ _ _ _ _ _ _ _ _ c.in_default.ensures c.extend.ensures.few c.extend.ensures.after c.loop-end.invariant
