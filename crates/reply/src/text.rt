@@ -1,5 +1,5 @@
 // A reply as text.
-ghost use Rattle.std.specs.Prelude.{◌≡◌, ◌+◌, ◌≤◌, ◌∷◌, ◌++◌, [], drop};
+ghost use Rattle.std.specs.Prelude.{◌≡◌, ◌+◌, ◌≤◌, ◌∷◌, ◌++◌, [], drop, take};
 ghost use Rattle.refusal.specs.Texts.{refusal_text};
 ghost use Rattle.reply.specs.Texts.{reply_text, operation_text, entry_text, cell_or_dash};
 
@@ -11,11 +11,13 @@ use plan::gate::AgendaEntry;
 use refusal::{Refusal, Shown};
 
 // Puts a refusal's number and places in front of the bytes from `end` on, and answers where they begin.
+#[tactic(auto, using(crate::proofs::Decimals::before_both))]
 fn put_refusal(refusal: Refusal, places: &mut [u8; PLACES], end: usize) -> usize
     requires { (62 ≤ end) × (end ≤ 128) }
     ensures room { end ≤ result + 62 }
     ensures within { result ≤ end }
     ensures bytes { drop result places.new ≡ refusal_text refusal ++ drop end places.old }
+    ensures before { take result places.new ≡ take result places.old }
 {
     let Shown {
         number,
@@ -28,11 +30,13 @@ fn put_refusal(refusal: Refusal, places: &mut [u8; PLACES], end: usize) -> usize
 }
 
 // Puts a space and the second cell of an operation, or a dash, in front of the bytes from `end` on.
+#[tactic(auto, using(crate::proofs::Decimals::before_both))]
 fn put_second(second: Option<u8>, places: &mut [u8; PLACES], end: usize) -> usize
     requires { (21 ≤ end) × (end ≤ 128) }
     ensures room { end ≤ result + 21 }
     ensures within { result ≤ end }
     ensures bytes { drop result places.new ≡ 32 ∷ (cell_or_dash second ++ drop end places.old) }
+    ensures before { take result places.new ≡ take result places.old }
 {
     match second {
         Some(cell) => put_spaced(u64::from(cell), places, end),
@@ -48,6 +52,7 @@ fn put_operation(operation: Operation, places: &mut [u8; PLACES], end: usize) ->
     requires { (106 ≤ end) × (end ≤ 128) }
     ensures within { result ≤ end }
     ensures bytes { drop result places.new ≡ operation_text operation ++ drop end places.old }
+    ensures before { take result places.new ≡ take result places.old }
 {
     let Operation {
         start,
@@ -65,30 +70,36 @@ fn put_operation(operation: Operation, places: &mut [u8; PLACES], end: usize) ->
 }
 
 // Puts a line of the agenda in front of the bytes from `end` on, and answers where it begins.
+#[tactic(auto, using(crate::proofs::Decimals::before_both))]
 fn put_entry(entry: AgendaEntry, places: &mut [u8; PLACES], end: usize) -> usize
     requires { (41 ≤ end) × (end ≤ 128) }
     ensures within { result ≤ end }
     ensures bytes { drop result places.new ≡ entry_text entry ++ drop end places.old }
+    ensures before { take result places.new ≡ take result places.old }
 {
     let at = put_spaced(u64::from(entry.gate), places, end);
     put_number(u64::from(entry.start), places, at)
 }
 
 // Puts two letters in front of the bytes from `end` on, and answers where they begin.
+#[tactic(auto, using(crate::proofs::Decimals::before_both))]
 fn put_word(word: [u8; 2], places: &mut [u8; PLACES], end: usize) -> usize
     requires { (2 ≤ end) × (end ≤ 128) }
     ensures within { result ≤ end }
     ensures bytes { drop result places.new ≡ word ++ drop end places.old }
+    ensures before { take result places.new ≡ take result places.old }
 {
     let at = put_byte(word[1], places, end);
     put_byte(word[0], places, at)
 }
 
 // Puts a reply in front of the bytes from `end` on, and answers where it begins.
+#[tactic(auto, using(crate::proofs::Decimals::before_both))]
 fn put_reply(reply: Reply, places: &mut [u8; PLACES], end: usize) -> usize
     requires { (106 ≤ end) × (end ≤ 128) }
     ensures within { result ≤ end }
     ensures bytes { drop result places.new ≡ reply_text reply ++ drop end places.old }
+    ensures before { take result places.new ≡ take result places.old }
 {
     match reply {
         Reply::Ok(number) => {
@@ -106,10 +117,12 @@ fn put_reply(reply: Reply, places: &mut [u8; PLACES], end: usize) -> usize
     }
 }
 
-// Puts the line of a reply, with its line feed, into the last places, and answers where it begins.
+// Puts the line of a reply, with its line feed, into the last places, and answers where it begins. All places in front of it keep what they held.
+#[tactic(auto, using(crate::proofs::Decimals::ended))]
 pub fn put_line(reply: Reply, places: &mut [u8; PLACES]) -> usize
     ensures within { result ≤ 128 }
     ensures bytes { drop result places.new ≡ reply_text reply ++ 10 ∷ [] }
+    ensures before { take result places.new ≡ take result places.old }
 {
     let end = put_byte(b'\n', places, PLACES);
     put_reply(reply, places, end)
