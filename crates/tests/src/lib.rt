@@ -1,19 +1,17 @@
-// Examples that are run, layer by layer.
+// Calls that are run, of those that no line of text can make; `gridjob` is run on lines of text.
 #![tactic(auto)]
 
 #[cfg(test)]
-mod agendas;
-#[cfg(test)]
 mod jobs;
 #[cfg(test)]
-mod judging;
-#[cfg(test)]
-mod listed;
+mod places;
 #[cfg(test)]
 mod queues;
 #[cfg(test)]
+mod registers;
+#[cfg(test)]
 mod runs;
 #[cfg(test)]
-mod tables;
+mod steps;
 #[cfg(test)]
 mod texts;

@@ -1,35 +1,10 @@
-// Jobs as text, line by line, through the loop of the job program.
-use crate::tables::*;
+// The longest listing, line by line, through the loop of the job program.
 use dialogue::serve::serve;
 use protocol::text_session::TextSession;
 use std::alloc::Global;
 use std::io;
 use std::io::Write;
-use std::process::Abort;
 use std::test::Fail;
-
-// Gives each text of a table to one session, and compares what is printed.
-fn answers(heap: Global, rt: &impl Abort, rows: &[(&str, &str)]) -> Result<(), Fail> {
-    let mut session = TextSession::new(heap)?;
-    for (text, want) in rows {
-        let mut printed = Vec::new(heap);
-        serve(text.as_bytes(), &mut printed, &mut session)?;
-        assert_eq!(rt; printed.as_slice(), want.as_bytes(), "to {text:?}");
-    }
-    Ok(())
-}
-
-#[test]
-fn lines_are_answered(rt: HostRuntime) -> Result<(), Fail> {
-    answers(rt.alloc(), &rt, &OPENING)?;
-    answers(rt.alloc(), &rt, &STATES)?;
-    answers(rt.alloc(), &rt, &ADDING)?;
-    answers(rt.alloc(), &rt, &CALIBRATING)?;
-    answers(rt.alloc(), &rt, &PLACING)?;
-    answers(rt.alloc(), &rt, &HOMES)?;
-    answers(rt.alloc(), &rt, &ORDER)?;
-    answers(rt.alloc(), &rt, &MALFORMED)
-}
 
 // Writes the line so many times.
 fn repeated(text: &mut Vec<u8>, line: &str, count: u8) -> io::Result<()> {
@@ -60,8 +35,8 @@ fn long_job(text: &mut Vec<u8>, others: u8) -> io::Result<()> {
     text.write_all(b"l")
 }
 
-// What is printed to it.
-fn long_job_answered(heap: Global, others: u8) -> Result<Vec<u8>, Fail> {
+// How many lines are printed to it, and the last of them.
+fn answers(heap: Global, others: u8) -> Result<Vec<u8>, Fail> {
     let mut text = Vec::new(heap);
     long_job(&mut text, others)?;
     let mut printed = Vec::new(heap);
@@ -72,45 +47,14 @@ fn long_job_answered(heap: Global, others: u8) -> Result<Vec<u8>, Fail> {
 // A listing of 4,000 operations is printed, one of 4,001 is refused.
 #[test]
 fn the_longest_listing(rt: HostRuntime) -> Result<(), Fail> {
-    let listed = long_job_answered(rt.alloc(), 50)?;
-    assert_eq!(rt;
-        listed.iter().filter(|byte| **byte == b'\n').count(),
-        206 + 4000
-    );
-    assert!(rt; listed.ends_with(b"\n3949 1 C 0 1 49\n"));
-    let refused = long_job_answered(rt.alloc(), 51)?;
-    assert_eq!(rt; refused.iter().filter(|byte| **byte == b'\n').count(), 208);
-    assert!(rt; refused.ends_with(b"\nno 31 0 0 208\n"));
-    Ok(())
-}
-
-// A program of 256 gates is full.
-#[test]
-fn the_longest_program(rt: HostRuntime) -> Result<(), Fail> {
-    let mut session = TextSession::new(rt.alloc())?;
-    let mut printed = Vec::new(rt.alloc());
-    serve(b"o 1 1 1\n".as_slice(), &mut printed, &mut session)?;
-    for _ in 0..256 {
-        serve(b"T 0\n".as_slice(), &mut printed, &mut session)?;
+    for (others, lines, last) in [
+        (50, 206 + 4000, "\n3949 1 C 0 1 49\n"),
+        (51, 208, "\nno 31 0 0 208\n"),
+    ] {
+        let printed = answers(rt.alloc(), others)?;
+        let count = printed.iter().filter(|byte| **byte == b'\n').count();
+        assert_eq!(rt; count, lines);
+        assert!(rt; printed.ends_with(last.as_bytes()));
     }
-    assert!(rt; printed.ends_with(b"\nok 255\n"));
-    serve(b"T 0\nR 0\nT 1\ne".as_slice(), &mut printed, &mut session)?;
-    assert!(rt; printed.ends_with(b"\nok 255\nno 7 0 0 1\nno 7 0 0 2\nno 4 1 0 3\nok 256\n"));
-    Ok(())
-}
-
-// Bytes that are no text are no command.
-#[test]
-fn bytes_that_are_no_text(rt: HostRuntime) -> Result<(), Fail> {
-    let mut session = TextSession::new(rt.alloc())?;
-    let mut printed = Vec::new(rt.alloc());
-    serve(
-        b"o 1 1 1\n\xff\nH 0\xff\n\x80\x81\n\xc3\n\xef\xbb\xbfH 0\nH 0\x00\nH\xa00\nH 0\n\xff".as_slice(),
-        &mut printed,
-        &mut session,
-    )?;
-    let want =
-        "ok 1\nno 51 0 0 2\nno 51 0 0 3\nno 51 0 0 4\nno 51 0 0 5\nno 51 0 0 6\nno 51 0 0 7\nno 51 0 0 8\nok 0\nno 51 0 0 10\n";
-    assert_eq!(rt; printed.as_slice(), want.as_bytes());
     Ok(())
 }
