@@ -2,7 +2,5 @@
 #![tactic(auto)]
 
 pub mod amplitudes;
-#[cfg(test)]
-mod cases;
 mod pair;
 mod pass;

@@ -1,6 +1,4 @@
 // The phase register: a bit for each wire and one turn.
 #![tactic(auto)]
 
-#[cfg(test)]
-mod cases;
 pub mod phase_register;

@@ -95,16 +95,23 @@ fn listing(rt: &HostRuntime, rounds: u32) -> anyhow::Result<u64> {
     Ok(sum)
 }
 
-// Rehearsing on the phase register.
-fn on_phase(rt: &HostRuntime, rounds: u32) -> anyhow::Result<u64> {
-    let job = job_of(rt, GREATEST, Program::ToAndFro)?;
+// The listing of a program's job.
+fn listed(rt: &HostRuntime, size: Size, program: Program) -> anyhow::Result<Vec<Operation>> {
+    let job = job_of(rt, size, program)?;
     let mut places = vec![in rt.alloc(); NO_OPERATION; PLACES]?;
-    list(&job, &mut places)?;
+    let count = list(&job, &mut places)?;
+    places.truncate(count);
+    Ok(places)
+}
+
+// Rehearsing on the phase register, after an X on its first wire.
+fn on_phase(rt: &HostRuntime, rounds: u32) -> anyhow::Result<u64> {
+    let operations = listed(rt, GREATEST, Program::ToAndFro)?;
     let mut register = PhaseRegister::new(64);
     let mut sum = 0u64;
     for _ in 0..rounds {
         register.apply(Action::One(Single::Plain(Plain::X), 0))?;
-        rehearse(&mut register, &places)?;
+        rehearse(&mut register, &operations)?;
         sum = with_told(sum, register.tell(63));
     }
     Ok(sum)
@@ -118,16 +125,25 @@ fn on_parity(rt: &HostRuntime, rounds: u32) -> anyhow::Result<u64> {
         labels: 2,
         apart: 31,
     };
-    let job = job_of(rt, size, Program::ToAndFro)?;
-    let mut places = vec![in rt.alloc(); NO_OPERATION; PLACES]?;
-    let count = list(&job, &mut places)?;
+    let operations = listed(rt, size, Program::ToAndFro)?;
     let mut register = ParityRegister::new(32);
     let mut sum = 0u64;
     for _ in 0..rounds {
-        rehearse(&mut register, places.get(..count).unwrap_or_default())?;
+        rehearse(&mut register, &operations)?;
         sum = with_told(sum, register.tell(31));
     }
     Ok(sum)
+}
+
+// An amplitude after operations on a blank register in the places.
+fn amplitude_after(
+    places: &mut [Amplitude],
+    operations: &[Operation],
+    index: usize,
+) -> Result<Option<Amplitude>, Refusal> {
+    let mut register = AmplitudeRegister::new(places, 10);
+    rehearse(&mut register, operations)?;
+    Ok(register.amplitude(index))
 }
 
 // Rehearsing on the amplitude register, a blank one each time.
@@ -138,15 +154,12 @@ fn on_amplitude(rt: &HostRuntime, rounds: u32) -> anyhow::Result<u64> {
         labels: 10,
         apart: 1,
     };
-    let job = job_of(rt, size, Program::Mixed)?;
-    let mut places = vec![in rt.alloc(); NO_OPERATION; PLACES]?;
-    let count = list(&job, &mut places)?;
-    let mut amplitudes = [NOUGHT; 1024];
+    let operations = listed(rt, size, Program::Mixed)?;
+    let mut places = [NOUGHT; 1024];
     let mut sum = 0u64;
     for round in 0..rounds {
-        let mut register = AmplitudeRegister::new(&mut amplitudes, 10);
-        rehearse(&mut register, places.get(..count).unwrap_or_default())?;
-        sum = with_amplitude(sum, register.amplitude(round as usize % 1024));
+        let amplitude = amplitude_after(&mut places, &operations, round as usize % 1024)?;
+        sum = with_amplitude(sum, amplitude);
     }
     Ok(sum)
 }
