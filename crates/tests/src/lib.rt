@@ -13,5 +13,3 @@ mod registers;
 mod runs;
 #[cfg(test)]
 mod steps;
-#[cfg(test)]
-mod texts;
