@@ -1,4 +1,5 @@
 // The amplitudes of a register, printed and compared.
+use crate::show::say;
 use amplitude::amplitudes::AmplitudeRegister;
 use matrices::Amplitude;
 
@@ -20,8 +21,9 @@ pub(crate) fn print_amplitudes(
     rt: &HostRuntime,
     register: &AmplitudeRegister<'_>,
 ) -> anyhow::Result<()> {
-    println!(rt;
-        "amplitudes a + bω + cω² + dω³ by index, whose bit w is cell w; all others are 0"
+    say(
+        rt,
+        "amplitudes a + bω + cω² + dω³ by index, whose bit w is cell w; all others are 0",
     )?;
     for index in 0..COUNT {
         let Amplitude { a, b, c, d } = register.amplitude(index).unwrap_or(NOUGHT);

@@ -45,7 +45,7 @@ fn calibrate_cells(
 fn place_labels(rt: &HostRuntime, job: &mut ClosedJob, homes: &[u32]) -> anyhow::Result<()> {
     for (label, home) in (0u32..32).zip(homes) {
         job.place(label, *home)?;
-        println!(rt; "label {label} is placed on cell {home}")?;
+        print_home(rt, label, *home)?;
     }
     Ok(())
 }
@@ -53,24 +53,27 @@ fn place_labels(rt: &HostRuntime, job: &mut ClosedJob, homes: &[u32]) -> anyhow:
 fn time_gates(rt: &HostRuntime, job: &mut ClosedJob, steps: &[Step]) -> anyhow::Result<()> {
     for (gate, step) in (0u32..256).zip(steps) {
         job.time(gate, step.start, step.choice)?;
-        println!(rt;
-            "gate {gate} starts at {}, by route choice {}",
-            step.start, step.choice
-        )?;
+        print_timing(rt, gate, step)?;
     }
     Ok(())
 }
 
-// Sets a job up: opens it, adds its gates, closes it, calibrates its cells, places its labels and times its gates.
-pub(crate) fn set_up(rt: &HostRuntime, task: &Task<'_>) -> anyhow::Result<ClosedJob> {
-    let mut open = OpenJob::new(rt.alloc(), task.columns, task.rows, task.labels)?;
+// Opens a job.
+fn open_job(rt: &HostRuntime, task: &Task<'_>) -> anyhow::Result<OpenJob> {
+    let open = OpenJob::new(rt.alloc(), task.columns, task.rows, task.labels)?;
     println!(rt;
         "a job is opened: columns {}, rows {}, labels {}",
         task.columns, task.rows, task.labels
     )?;
+    Ok(open)
+}
+
+// Sets a job up: opens it, adds its gates, closes it, calibrates its cells, places its labels and times its gates.
+pub(crate) fn set_up(rt: &HostRuntime, task: &Task<'_>) -> anyhow::Result<ClosedJob> {
+    let mut open = open_job(rt, task)?;
     add_gates(rt, &mut open, task.steps)?;
     let mut job = open.close();
-    println!(rt; "the program is closed, with gates: {}", job.gate_count())?;
+    print_count(rt, "the program is closed, with gates", job.gate_count())?;
     calibrate_cells(rt, &mut job, task.cells)?;
     place_labels(rt, &mut job, task.homes)?;
     time_gates(rt, &mut job, task.steps)?;
@@ -98,9 +101,9 @@ pub(crate) fn try_start(
 pub(crate) fn print_agenda(rt: &HostRuntime, job: &ClosedJob) -> anyhow::Result<()> {
     let mut places = [NO_ENTRY; 16];
     let count = job.agenda(&mut places)?;
-    println!(rt; "the agenda has entries: {count}")?;
+    print_count(rt, "the agenda has entries", count)?;
     for entry in places.iter().take(count) {
-        println!(rt; "at {}: gate {}", entry.start, entry.gate)?;
+        print_entry(rt, entry)?;
     }
     Ok(())
 }

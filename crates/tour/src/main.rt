@@ -11,13 +11,15 @@ mod task;
 mod third_job;
 mod told;
 
+use show::say;
+
 fn main(rt: HostRuntime) -> anyhow::Result<()> {
-    println!(rt; "FIRST JOB: one CNOT over two links")?;
+    say(&rt, "FIRST JOB: one CNOT over two links")?;
     first_job::tour(&rt)?;
-    println!(rt; "")?;
-    println!(rt; "SECOND JOB: amplitudes")?;
+    say(&rt, "")?;
+    say(&rt, "SECOND JOB: amplitudes")?;
     second_job::tour(&rt)?;
-    println!(rt; "")?;
-    println!(rt; "THIRD JOB: told numbers")?;
+    say(&rt, "")?;
+    say(&rt, "THIRD JOB: told numbers")?;
     third_job::tour(&rt)
 }

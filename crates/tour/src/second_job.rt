@@ -2,7 +2,7 @@
 use crate::amplitudes::{NOUGHT, WIRES, print_amplitudes, same_amplitudes};
 use crate::calls::{judge, list, print_agenda, set_up, try_start};
 use crate::reorder::reordered;
-use crate::show::{print_agreement, print_operations, print_refusal};
+use crate::show::{print_agreement, print_count, print_operations, print_refusal, say};
 use crate::task::{Step, Task, cnot, links, one};
 use amplitude::amplitudes::AmplitudeRegister;
 use calibration::values::Calibration;
@@ -46,21 +46,36 @@ fn steps() -> [Step; 11] {
 
 // Starts that the plan cannot have: before the gate that it depends on ends, and while another gate has a cell of its path.
 fn refusals(rt: &HostRuntime, job: &mut ClosedJob) -> anyhow::Result<()> {
-    println!(rt; "two starts that cannot be: before gate 2 ends, and while gate 5 has the cell")?;
+    say(
+        rt,
+        "two starts that cannot be: before gate 2 ends, and while gate 5 has the cell",
+    )?;
     try_start(rt, job, 4, 16)?;
     try_start(rt, job, 10, 44)?;
-    println!(rt; "the plan is as before")?;
+    say(rt, "the plan is as before")?;
     judge(rt, job)
 }
 
 // The phase register takes no H: the listing is refused, with the position of the first.
 fn refused_register(rt: &HostRuntime, listing: &[Operation]) -> anyhow::Result<()> {
-    println!(rt; "the listing is rehearsed on the phase register, which takes no H")?;
+    say(
+        rt,
+        "the listing is rehearsed on the phase register, which takes no H",
+    )?;
     let mut register = PhaseRegister::new(WIRES);
     match rehearse(&mut register, listing) {
-        Ok(reads) => println!(rt; "reads: {reads}")?,
-        Err(refusal) => print_refusal(rt, refusal)?,
+        Ok(reads) => print_count(rt, "reads", reads),
+        Err(refusal) => print_refusal(rt, refusal),
     }
+}
+
+// The reads of a run, and the count of H of its register.
+fn print_run(
+    rt: &HostRuntime,
+    reads: usize,
+    register: &AmplitudeRegister<'_>,
+) -> anyhow::Result<()> {
+    println!(rt; "reads: {reads}, H: {}", register.h_done())?;
     Ok(())
 }
 
@@ -73,22 +88,22 @@ fn rehearse_beside(
     let mut places = [NOUGHT; 64];
     let mut register = AmplitudeRegister::new(&mut places, WIRES);
     let reads = rehearse(&mut register, operations)?;
-    println!(rt; "reads: {reads}, H: {}", register.h_done())?;
+    print_run(rt, reads, &register)?;
     let same = same_amplitudes(&register, direct);
     print_agreement(rt, "all amplitudes are those of the direct run", same)
 }
 
 // The direct run, the listing and the listing in another order, each on a register of its own.
 fn runs(rt: &HostRuntime, job: &ClosedJob, listing: &[Operation]) -> anyhow::Result<()> {
-    println!(rt; "the program is run directly on the amplitude register")?;
+    say(rt, "the program is run directly on the amplitude register")?;
     let mut places = [NOUGHT; 64];
     let mut direct = AmplitudeRegister::new(&mut places, WIRES);
     let reads = job.run(&mut direct)?;
-    println!(rt; "reads: {reads}, H: {}", direct.h_done())?;
+    print_run(rt, reads, &direct)?;
     print_amplitudes(rt, &direct)?;
-    println!(rt; "the listing is rehearsed in its own order")?;
+    say(rt, "the listing is rehearsed in its own order")?;
     rehearse_beside(rt, listing, &direct)?;
-    println!(rt; "the listing is rehearsed in another allowed order")?;
+    say(rt, "the listing is rehearsed in another allowed order")?;
     let operations = reordered(rt, listing)?;
     print_operations(rt, &operations)?;
     rehearse_beside(rt, &operations, &direct)

@@ -2,14 +2,27 @@
 use crate::task::Step;
 use calibration::values::Calibration;
 use circuit::operation::{Operation, Reading};
+use plan::gate::AgendaEntry;
 use refusal::Refusal;
+
+// A line of fixed text.
+pub(crate) fn say(rt: &HostRuntime, line: &str) -> anyhow::Result<()> {
+    println!(rt; "{line}")?;
+    Ok(())
+}
+
+// What is counted, and how many there are.
+pub(crate) fn print_count(rt: &HostRuntime, what: &str, count: usize) -> anyhow::Result<()> {
+    println!(rt; "{what}: {count}")?;
+    Ok(())
+}
 
 pub(crate) fn print_gate(rt: &HostRuntime, gate: usize, step: &Step) -> anyhow::Result<()> {
     print!(rt; "gate {gate} is added: {} {}", step.letter, step.one)?;
     if step.letter == 'C' {
         print!(rt; " {}", step.two)?;
     }
-    println!(rt; "")?;
+    say(rt, "")?;
     Ok(())
 }
 
@@ -18,6 +31,24 @@ pub(crate) fn print_cell(rt: &HostRuntime, cell: u32, values: &Calibration) -> a
         "cell {cell} is calibrated: single {}, read {}, window {}, east {}, south {}",
         values.single, values.read, values.window, values.east, values.south
     )?;
+    Ok(())
+}
+
+pub(crate) fn print_home(rt: &HostRuntime, label: u32, home: u32) -> anyhow::Result<()> {
+    println!(rt; "label {label} is placed on cell {home}")?;
+    Ok(())
+}
+
+pub(crate) fn print_timing(rt: &HostRuntime, gate: u32, step: &Step) -> anyhow::Result<()> {
+    println!(rt;
+        "gate {gate} starts at {}, by route choice {}",
+        step.start, step.choice
+    )?;
+    Ok(())
+}
+
+pub(crate) fn print_entry(rt: &HostRuntime, entry: &AgendaEntry) -> anyhow::Result<()> {
+    println!(rt; "at {}: gate {}", entry.start, entry.gate)?;
     Ok(())
 }
 

@@ -2,7 +2,7 @@
 use calibration::values::Calibration;
 
 // A gate of the program with its start and its choice of route. The second label is of no use but to a CNOT.
-#[derive(Clone, Copy, Debug, PartialEq, Eq)]
+#[derive(Clone, Copy)]
 pub(crate) struct Step {
     pub(crate) letter: char,
     pub(crate) one: u32,
@@ -12,7 +12,7 @@ pub(crate) struct Step {
 }
 
 // A job to be set up: cells with their values, the home of each label from label 0 on, and the gates in program order.
-#[derive(Clone, Copy, Debug, PartialEq, Eq)]
+#[derive(Clone, Copy)]
 pub(crate) struct Task<'a> {
     pub(crate) columns: u32,
     pub(crate) rows: u32,

@@ -3,7 +3,7 @@ use crate::amplitudes::WIRES;
 use crate::calls::{judge, list, set_up};
 use crate::reorder::reordered;
 use crate::second_job::{HOMES, cells};
-use crate::show::print_operations;
+use crate::show::{print_operations, say};
 use crate::task::{Step, Task, cnot, one};
 use crate::told::compare_runs;
 use parity::parity_register::ParityRegister;
@@ -36,13 +36,14 @@ pub(crate) fn tour(rt: &HostRuntime) -> anyhow::Result<()> {
     let job = set_up(rt, &task)?;
     judge(rt, &job)?;
     let listing = list(rt, &job)?;
-    println!(rt; "another allowed order of the listing")?;
+    say(rt, "another allowed order of the listing")?;
     let second = reordered(rt, &listing)?;
     print_operations(rt, &second)?;
-    println!(rt; "on the phase register a read tells its cell's bit")?;
+    say(rt, "on the phase register a read tells its cell's bit")?;
     compare_runs(rt, &job, &listing, &second, PhaseRegister::new(WIRES))?;
-    println!(rt;
-        "on the parity register a read tells the sum of 2^w over its set of starting cells w, and 2^32 if it is flipped"
+    say(
+        rt,
+        "on the parity register a read tells the sum of 2^w over its set of starting cells w, and 2^32 if it is flipped",
     )?;
     compare_runs(rt, &job, &listing, &second, ParityRegister::new(WIRES))
 }

@@ -1,5 +1,5 @@
 // The direct run and the rehearsals of a listing on a register that tells, compared by what they tell.
-use crate::show::{print_agreement, print_readings};
+use crate::show::{print_agreement, print_count, print_readings, say};
 use circuit::operation::{Operation, Reading};
 use job::closed_job::ClosedJob;
 use register::TellingRegister;
@@ -17,7 +17,7 @@ fn readings_of_run<T: TellingRegister>(
     let mut readings = vec![in rt.alloc(); NO_READING; 8]?;
     let count = job.run_telling(register, &mut readings)?;
     readings.truncate(count);
-    println!(rt; "the program is run directly, with reads: {count}")?;
+    print_count(rt, "the program is run directly, with reads", count)?;
     print_readings(rt, &readings)?;
     Ok(readings)
 }
@@ -31,7 +31,7 @@ fn readings_of_rehearsal<T: TellingRegister>(
     let mut readings = vec![in rt.alloc(); NO_READING; 8]?;
     let count = rehearse_telling(register, operations, &mut readings)?;
     readings.truncate(count);
-    println!(rt; "the operations are rehearsed, with reads: {count}")?;
+    print_count(rt, "the operations are rehearsed, with reads", count)?;
     print_readings(rt, &readings)?;
     Ok(readings)
 }
@@ -77,8 +77,8 @@ pub(crate) fn compare_runs<T: TellingRegister + Copy + PartialEq>(
 ) -> anyhow::Result<()> {
     let mut direct = blank;
     let readings = readings_of_run(rt, job, &mut direct)?;
-    println!(rt; "the listing in its own order")?;
+    say(rt, "the listing in its own order")?;
     compare_with(rt, listing, blank, &direct, &readings)?;
-    println!(rt; "the listing in the other order")?;
+    say(rt, "the listing in the other order")?;
     compare_with(rt, second, blank, &direct, &readings)
 }
