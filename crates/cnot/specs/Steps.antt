@@ -7,6 +7,7 @@ use Rattle.refusal.specs.declared.Refusal.{Refusal}
 use Rattle.refusal.specs.Refusals.{refuse_if, or_else}
 use Rattle.calibration.specs.declared.table.CalibrationTable.{CalibrationTable}
 use Rattle.route.specs.declared.path.Path.{Path}
+use Rattle.route.specs.Paths.{path_cells}
 use Rattle.cnot.specs.declared.link.Link.{Link}
 use Rattle.cnot.specs.declared.write.Writer.{Writer}
 use Rattle.cnot.specs.Links.{front, final, times_of, links}
@@ -65,4 +66,4 @@ written_first was os = os ++ drop (length os) was
 
 -- the steps of a CNOT along a path, by a table of calibration
 abbrev pub routed_along : CalibrationTable → Path → List Step
-routed_along t p = routed (links (times_of t) p)
+routed_along t p = routed (links (times_of t) (path_cells p))

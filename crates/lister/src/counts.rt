@@ -1,5 +1,6 @@
 // How many operations gates have.
 ghost use Rattle.std.specs.Prelude.{◌≡◌, ◌≤◌, ℕ, length};
+ghost use Rattle.route.specs.Paths.{path_cells};
 ghost use Rattle.cnot.specs.Links.{links};
 ghost use Rattle.cnot.specs.Steps.{routed};
 ghost use Rattle.plan.specs.Blocks.{blocks};
@@ -16,7 +17,7 @@ use spans::layout::Layout;
 
 // How many operations a CNOT along the path has, which are at most 373, since a path has at most 64 cells.
 fn count_along(path: &Path) -> usize
-    ensures value { (time : ℕ → ℕ → ℕ) → result ≡ length (routed (links time path.now)) }
+    ensures value { (time : ℕ → ℕ → ℕ) → result ≡ length (routed (links time (path_cells path.now))) }
     ensures few { result ≤ 373 }
 {
     prove!(path.cells().len() <= 64);

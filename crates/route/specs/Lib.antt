@@ -1,4 +1,3 @@
 pub mod Ends
-pub mod Held
 pub mod Paths
 pub mod Routes

@@ -1,7 +1,12 @@
 -- Paths over cells. Assumes nothing.
-use Rattle.std.specs.Prelude.{◌≡◌, ℕ, ◌≢◌, List, [], ◌∷◌}
+use Rattle.std.specs.Prelude.{◌≡◌, ℕ, ◌≢◌, List, [], ◌∷◌, take}
 use Rattle.orders.specs.Lists.{Pairs}
 use Rattle.grid.specs.Grids.{Grid, Neighbours}
+use Rattle.route.specs.declared.path.Path.{Path}
+
+-- the cells of a path in the code
+abbrev pub path_cells : Path → List ℕ
+path_cells p = take p.len p.places
 
 -- R holds of each two that follow one another, from a on
 abbrev pub Chain : (ℕ → ℕ → Type 0) → ℕ → List ℕ → Type 0

@@ -1,28 +1,13 @@
-use std::marker::Model;
+ghost use Rattle.std.specs.Prelude.{◌≤◌};
 
 mod calls;
 
 // Cells one after another, at most 64.
+// The bound is in the type, and there is no `impl Model`: one who holds a path then knows it without a call, and a struct that holds a path is passed by value as any other.
 #[derive(Clone, Copy, Debug, PartialEq, Eq)]
 pub struct Path {
     // No `Vec`: a rule of the project. A path takes fixed memory, copies and needs no heap. Places beyond the length hold 0.
     places: [u8; 64],
     len: usize,
-}
-
-// Clauses see the cells in their order.
-impl Model for Path {
-    ghost use Rattle.std.specs.Prelude.{List, ℕ};
-
-    ghost Value = { List ℕ };
-
-    ghost use Rattle.route.specs.Held.{cells_held, held_as, Padded, held_inverse};
-
-    ghost view = { cells_held };
-
-    ghost invariant = { Padded };
-
-    ghost inverse = { held_as };
-
-    ghost inverse_ok = { held_inverse };
+    ghost few: { len ≤ 64 },
 }

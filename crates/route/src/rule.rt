@@ -1,6 +1,7 @@
 ghost use Rattle.std.specs.Prelude.{◌≡◌};
 ghost use Rattle.grid.specs.Members.{has};
 ghost use Rattle.route.specs.Ends.{ends_of};
+ghost use Rattle.route.specs.Paths.{path_cells};
 ghost use Rattle.route.specs.Routes.{Route, RouteLawful, path_between, reserved_between};
 
 use crate::endpoints::Endpoints;
@@ -18,7 +19,7 @@ pub trait RouteRule {
 
     // The path under a choice.
     fn path(&self, ends: Endpoints, choice: u8) -> Path
-        ensures { result ≡ path_between (route self.now) (ends_of ends) choice };
+        ensures { path_cells result ≡ path_between (route self.now) (ends_of ends) choice };
 
     // The cells that a CNOT keeps for itself while it lasts.
     fn reserved(&self, ends: Endpoints, choice: u8) -> CellSet

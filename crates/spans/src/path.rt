@@ -3,6 +3,7 @@ ghost use Rattle.std.specs.Option.{option_map};
 ghost use Rattle.grid.specs.Grids.{grid_of};
 ghost use Rattle.calibration.specs.Tables.{table_grid};
 ghost use Rattle.route.specs.Ends.{ends_of, apart_cells};
+ghost use Rattle.route.specs.Paths.{path_cells};
 ghost use Rattle.plan.specs.Plans.{home};
 ghost use Rattle.plan.specs.Durations.{path_of};
 ghost use Rattle.spans.specs.Layouts.{layout_plan};
@@ -47,7 +48,7 @@ impl Layout<'_> {
 
     // The path that a CNOT of two labels takes under a choice; it has no cells where the labels are not at two different cells.
     pub fn path_of<R: RouteRule>(&self, rule: &R, control: u8, target: u8, choice: u8) -> Path
-        ensures { result ≡ path_of (layout_plan self.now []) (R.RouteRule.route rule.now) choice control target }
+        ensures { path_cells result ≡ path_of (layout_plan self.now []) (R.RouteRule.route rule.now) choice control target }
     {
         self.ends_of(control, target)
             .map_or_else(Path::new, |ends| rule.path(ends, choice))

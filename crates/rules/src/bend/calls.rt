@@ -2,6 +2,7 @@ ghost use Rattle.std.specs.Prelude.{◌≡◌, ◌+◌, ◌<◌, ◌≤◌};
 ghost use Rattle.grid.specs.CellSets.{listed_cells};
 ghost use Rattle.grid.specs.Members.{has};
 ghost use Rattle.route.specs.Ends.{ends_of};
+ghost use Rattle.route.specs.Paths.{path_cells};
 ghost use Rattle.rules.specs.Bends.{toward as toward_by, bent_place, step_count, bent_path};
 ghost use Rattle.rules.specs.Legs.{is_row};
 ghost use Rattle.rules.specs.Ways.{along_row, cell_of, way_of};
@@ -98,7 +99,7 @@ impl Bend {
 
     // The path along it.
     pub(crate) fn path(&self) -> Path
-        ensures { result ≡ way_of self.now }
+        ensures { path_cells result ≡ way_of self.now }
     {
         // A loop over the numbers of the steps, and no `collect`, which is given a heap. A path has room for each, so no push is refused.
         let mut cell = self.cell(0);
