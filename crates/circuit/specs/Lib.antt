@@ -1,4 +1,3 @@
 pub mod Actions
 pub mod Operations
 pub mod Known
-pub mod Keys

@@ -2,7 +2,6 @@
 #![tactic(auto)]
 
 pub mod action;
-mod key;
 pub mod letter;
 pub mod operation;
 pub mod order;

@@ -25,7 +25,7 @@ least_leaves before o xs i x e l =
     sym ((sorted_one before o xs).only (x ∷ sorted before (remove xs i)) p ((all_perm (λ y. before y x ≡ false) p all).1, rest.ordered))
 
 -- those behind place i move up
-moved_up : {X : Type 0} (xs : List X) (n i : ℕ) → i < n → n ≤ length xs → take (n - 1) (copy_within xs (i + 1) n i) ≡ remove (take n xs) i
+pub moved_up : {X : Type 0} (xs : List X) (n i : ℕ) → i < n → n ≤ length xs → take (n - 1) (copy_within xs (i + 1) n i) ≡ remove (take n xs) i
 moved_up xs n i lt le =
     let m = n - (i + 1) in
     let ys = drop (i + 1) xs in

@@ -1,5 +1,6 @@
 // The steps of a call by which the least leaves.
 ghost use Rattle.std.specs.Prelude.{◌≡◌, ◌+◌, ◌∷◌, MatchOption};
+ghost use Rattle.std.specs.List.{remove};
 ghost use Rattle.std.specs.Ordering.{is_lt};
 ghost use Rattle.queue.specs.Held.{count, waiting, held, Lent, Least};
 
@@ -14,15 +15,16 @@ impl<'a, T: Ranked> Queue<'a, T> {
         self.places[..self.len]
             .iter()
             .enumerate()
-            .min_by_key(|(_, x)| **x)
+            .min_by_key(|(_, x)| *x)
             .map(|(at, _)| at)
     }
 
-    // The one at a place leaves, where it is the least.
+    // The one at a place leaves, where it is the least; those behind it move up.
     pub(super) fn take(&mut self, at: usize) -> T
         requires { Least (λ x y. is_lt (T.cmp x y)) (waiting self.old) at }
         ensures leaves { held T.Ranked.before self.old ≡ result ∷ held T.Ranked.before self.new }
         ensures counted { count self.new + 1 ≡ count self.old }
+        ensures front { waiting self.new ≡ remove (waiting self.old) at }
         ensures lent { Lent (count self.new) self.old self.new }
     {
         let x = self.places[at];
