@@ -48,7 +48,7 @@ impl CellSet {
     }
 
     // Whether the sets have a common cell.
-    #[tactic(auto, using(bits::proofs::Bits::meets_decides))]
+    #[tactic(auto, using(bits::proofs::Bits::words_meet))]
     pub fn meets(self, other: CellSet) -> bool
         ensures { Decides result (CommonCell (has self) (has other)) }
     {

@@ -19,10 +19,6 @@ use Rattle.listings.proofs.Listings.{well_listed}
 use Rattle.lister.specs.Blocks.{listing_refusal, listed, places_listed}
 use Rattle.lister.proofs.FirstBlocks.{ok_value}
 
--- what is refused before the test for places is refused
-pub refused_first : {X Y : Type 0} (o q : Option Refusal) (r : Refusal) (x : X) (y : Y) → Err r ≡ ok_unless o x → Err r ≡ ok_unless (or_else o q) y
-refused_first o q r x y e = search rules
-
 -- what holds at all holds of a value
 pub if_ok : {X E : Type 0} (r : Result X E) (P : Type 0) → P → IfOk r (λ _. P)
 if_ok (Ok x) P h = h

@@ -1,5 +1,5 @@
 -- What is known where nothing refuses. Assumes nothing.
-use Rattle.std.proofs.Common.{◌≡◌, Bool, false, None, Ok, Option, rules}
+use Rattle.std.proofs.Common.{◌≡◌, Bool, false, None, Ok, Err, Option, rules}
 use Rattle.refusal.specs.declared.Refusal.{Refusal}
 use Rattle.refusal.specs.Refusals.{refuse_if, or_else, ok_unless}
 
@@ -14,3 +14,7 @@ neither a b e = search rules
 -- an `Ok` was not refused
 pub accepted : {X : Type 0} (o : Option Refusal) (x y : X) → Ok y ≡ ok_unless o x → o ≡ None
 accepted o x y e = search rules
+
+-- what refuses first refuses the whole
+pub refused_first : {X Y : Type 0} (o rest : Option Refusal) (x : X) (v : Y) (r : Refusal) → Err r ≡ ok_unless o x → Err r ≡ ok_unless (or_else o rest) v
+refused_first o rest x v r e = search rules

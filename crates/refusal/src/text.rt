@@ -20,4 +20,11 @@ impl fmt::Display for Refusal {
     }
 }
 
+// Debug by hand too, as the same text: a program whose `main` fails with a refusal prints it so.
+impl fmt::Debug for Refusal {
+    fn fmt<W: fmt::Write>(&self, f: &mut fmt::Formatter<W>) -> fmt::Result {
+        write!(f, "{self}")
+    }
+}
+
 impl Error for Refusal {}

@@ -6,7 +6,7 @@ use Rattle.std.specs.Option.{option_map, unwrap_or}
 use Rattle.std.specs.List.{position, position_or_len, fold, reduce, find, range_with_len}
 use Rattle.std.proofs.lemmas.List.{get_or-drop, length-drop, get_or_read}
 use Rattle.std.proofs.lemmas.List.Sums.{fails_before_first, passes_at_first}
-use Rattle.search.specs.Searches.{first_from, first_below, some_below, highest, paired, beside, scan_from, scan_pairs, Scanned}
+use Rattle.search.specs.Searches.{first_from, first_below, some_below, highest, tested, paired, beside, scan_from, scan_pairs, Scanned}
 
 module _ (p : ℕ → Bool) where
   -- a loop that stops at k
@@ -83,6 +83,15 @@ module _ (p : ℕ → ℕ → Bool) (n : ℕ) where
   pub scan-none : (i m : ℕ) → ((a : ℕ) → a < i + m → first_below (p a) n ≡ None) → scan_from p n i m ≡ None
   scan-none i zero f = refl
   scan-none i (suc m) f = ap (λ o. beside i o (scan_from p n (i + 1) m)) (f i (omega arith)) ∙ scan-none (i + 1) m (λ a l. f a (omega arith))
+
+-- where the second place begins, and what stands before
+pub tested-before : (o : Bool) (p : ℕ → ℕ → Bool) (i s j : ℕ) → s ≡ cond o (i + 1) 0 → j < s → tested o p i j ≡ false
+tested-before true p i s j e l = ap (λ t. t && p i j) (le-ltb i j (omega arith))
+tested-before false p i s j e l = absurd (omega arith)
+
+pub tested-from : (o : Bool) (p : ℕ → ℕ → Bool) (i s j : ℕ) → s ≡ cond o (i + 1) 0 → s ≤ j → tested o p i j ≡ p i j
+tested-from true p i s j e l = ap (λ t. t && p i j) (lt-ltb i j (omega arith))
+tested-from false p i s j e l = refl
 
 -- tests that agree where they hold are one
 pub same_test : (r t : Bool) → (r ≡ true → t ≡ true) → (t ≡ true → r ≡ true) → r ≡ t

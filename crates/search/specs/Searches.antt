@@ -20,6 +20,11 @@ abbrev pub highest : (ℕ → ℕ) → ℕ → ℕ
 highest f zero = 0
 highest f (suc n) = max (highest f n) (f n)
 
+-- the test, of places in order only or of any
+abbrev pub tested : Bool → (ℕ → ℕ → Bool) → ℕ → ℕ → Bool
+tested true test i j = nat_lt i j && test i j
+tested false test i j = test i j
+
 -- the first place is below the second, and the elements there pass the test
 abbrev pub paired : {X : Type 0} → (X → X → Bool) → List X → X → ℕ → ℕ → Bool
 paired test xs d i j = nat_lt i j && test (slice_index_or xs i d) (slice_index_or xs j d)
