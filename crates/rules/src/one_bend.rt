@@ -1,4 +1,4 @@
-ghost use Rattle.std.specs.Prelude.{◌≡◌, ◌==◌, nat_eq};
+ghost use Rattle.std.specs.Prelude.{◌≡◌, nat_eq};
 ghost use Rattle.orders.specs.Lists.{any};
 ghost use Rattle.grid.specs.Members.{has};
 ghost use Rattle.route.specs.Ends.{ends_of};
@@ -17,21 +17,18 @@ use route::rule::RouteRule;
 #[derive(Clone, Copy, Debug, PartialEq, Eq)]
 pub struct OneBend;
 
-// The leg that comes first under a choice.
-fn first_leg(choice: u8) -> Leg
-    ensures { is_row result ≡ (choice == 0) }
+// The leg by whether it goes along the row.
+fn leg(is_along_row: bool) -> Leg
+    ensures { is_row result ≡ is_along_row }
 {
-    match choice {
-        0 => Leg::Row,
-        _ => Leg::Column,
-    }
+    if is_along_row { Leg::Row } else { Leg::Column }
 }
 
-// The cells of the path between two ends under a choice. Apart from `reserved`, since its proof needs that the path's cells are the machine's.
-fn path_cell_set(ends: Endpoints, choice: u8) -> CellSet
-    ensures { has result ≡ (λ c. any (nat_eq c) (bent_path (choice == 0) (ends_of ends).grid (ends_of ends).from (ends_of ends).to)) }
+// The cells of the path between two ends, along the row first or along the column. Apart from `reserved`, since its proof needs that the path's cells are the machine's.
+fn path_cell_set(ends: Endpoints, row_first: bool) -> CellSet
+    ensures { has result ≡ (λ c. any (nat_eq c) (bent_path row_first (ends_of ends).grid (ends_of ends).from (ends_of ends).to)) }
 {
-    Bend::new(ends, first_leg(choice)).cell_set()
+    Bend::new(ends, leg(row_first)).cell_set()
 }
 
 impl RouteRule for OneBend {
@@ -44,10 +41,10 @@ impl RouteRule for OneBend {
     }
 
     fn path(&self, ends: Endpoints, choice: u8) -> Path {
-        Bend::new(ends, first_leg(choice)).path()
+        Bend::new(ends, leg(choice == 0)).path()
     }
 
     fn reserved(&self, ends: Endpoints, choice: u8) -> CellSet {
-        path_cell_set(ends, choice)
+        path_cell_set(ends, choice == 0)
     }
 }

@@ -54,7 +54,8 @@ fn come_in_turn(spans: &[Span]) -> bool
 pub(super) fn check_early(spans: &[Span]) -> Result<(), Refusal>
     ensures { result ≡ ok_unless (early spans.now) tt }
 {
-    if come_in_turn(spans) {
+    // Of few spans the search is done sooner than the pass, which clears a place for each label.
+    if spans.len() > 16 && come_in_turn(spans) {
         return Ok(());
     }
     // A match: `map_or(Ok(()), ..)` would hide what is answered where nothing is found.
